@@ -19,12 +19,15 @@ use Rattle.node_core.specs.Receivers.{receivers_in}
 
 -- so many nodes of one kind
 module _ (name : ℕ → NodeId) (r : Receivers) (count : ℕ) (is : receivers_in r ≡ map name (range_with_len 0 count)) where
+  -- a count of the nodes that an address names is how many its receivers are
   pub named_count : (n : ℕ) → n ≡ count → n ≡ length (receivers_in r)
   named_count n e = e ∙ sym (length-map-range_with_len name 0 count) ∙ sym (ap length is)
 
+  -- each place among the receivers is below that count
   pub named_there : (i : ℕ) → i < length (receivers_in r) → i < count
   named_there i lt = let e : count ≡ length (receivers_in r) = named_count count refl in omega (arith, lt, e)
 
+  -- the node of a number that is a place among the receivers is the receiver there
   pub named_is : (i : ℕ) → i < length (receivers_in r) → (number : ℕ) → number ≡ i
       → name number ≡ get_or (receivers_in r) i (name number)
   named_is i lt number same =

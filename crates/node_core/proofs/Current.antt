@@ -77,6 +77,7 @@ module _ (bytes rest : List ℕ) (all : List Entry) (u : IsCurrentUpTo bytes res
   end_by [] is stored tail = done_all is stored.0
   end_by (e ∷ later) is stored tail = absurd (tail_unframed e rest stored.0 tail stored.1)
 
+  -- where the bytes behind the frames have no number, all bytes are frames of today's version
   pub current_end : None ≡ number_at rest → bytes ≡ frames_of all
   current_end none = end_by u.left refl u.stored (short_tail rest (sym none))
 
@@ -88,6 +89,7 @@ module _ (bytes rest : List ℕ) (all : List Entry) (u : IsCurrentUpTo bytes res
     pub not_empty : 0 < n
     not_empty = omega (arith, f.sized)
 
+    -- the frames that were read are no longer than the bytes
     pub all_there : n ≤ length body
     all_there =
         let len : length body ≡ length (body_spelling (version_of f.version) f.entry ++ f.after) = ap length f.body_is in
@@ -142,6 +144,7 @@ module _ (bytes rest : List ℕ) (all : List Entry) (u : IsCurrentUpTo bytes res
 
 -- ---- frames that are written
 
+-- the frame of one entry more, put behind those of the entries in front of it
 pub frames_next : (all : List Entry) (i : ℕ) (entry : Entry) (bytes now : List ℕ) → i < length all → entry ≡ get_or all i entry
     → IsEntry entry → now ≡ bytes ++ frame version_2 entry → AreWritten bytes (take i all) → AreWritten now (take (i + 1) all)
 frames_next all i entry bytes now lt is valid now_is h =
@@ -163,6 +166,7 @@ module _ (old new : Held) (bytes : List ℕ) (is : old.bytes ≡ bytes) where
       (stored_same read all bytes tail [] there (subst (λ (xs : List ℕ). IsStored xs all []) is stored)).0 in
       subst (λ (xs : List ℕ). IsReplaced xs old new r) (h.bytes_are ∙ ap frames_of same) put
 
+  -- a record whose frames were replaced by those that were written is a rewritten record
   pub rewritten_by : (read given : List Entry) (tail frames text : List ℕ) (r : Result (Unit {0}) Refusal) → IsStored bytes read tail
       → given ≡ read → AreWritten frames given → text ≡ frames → IsReplaced text old new r → Rewrites old new r
   rewritten_by read given tail frames text r there given_is h text_is put =

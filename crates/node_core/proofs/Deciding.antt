@@ -53,6 +53,7 @@ module _ (p : AcceptorParts) (d : Decision) (message : Kind)
   acceptor_left config a facts memory e s None plays = s
   acceptor_left config a facts memory e s (Some fact) plays = record { stands = s; fits = plays; idle = tt; leaves = refl }
 
+  -- what an acceptor decides on a message is what its node does
   pub acceptor_decides : Decides (Role.Acceptor p) (Role.Acceptor p) d
       (λ config who facts memory. on_message config who facts memory message)
   acceptor_decides config (A a) facts memory s =
@@ -82,6 +83,7 @@ module _ (p : ManagerParts) (d : Decision) (message : Kind) (h : manager_specs.D
     leaves = ap (λ (branches : List Branch). record memory { branches = branches }) leaves;
   }
 
+  -- so it is for a resource manager
   pub manager_decides : Decides (Role.Manager p) (Role.Manager p) d
       (λ config who facts memory. on_message config who facts memory message)
   manager_decides config (A a) facts memory s = absurd s
@@ -154,6 +156,7 @@ refused_memory config number old new rule other h = absurd h
 abbrev pub no_config : Config
 no_config = record { acceptors = 0; leaders = 0; managers = 0; bundled = false; tables = [] }
 
+-- and for a leader
 pub leader_decides : (old new : LeaderParts) (d : LeaderDecision) (message : Kind)
     → ((config : Config) (number : ℕ) → Follows config number old new d
     (λ stored memory. rules.on_leader_message config stored memory message))
@@ -172,6 +175,7 @@ leader_stores_nothing config (A a) facts memory p message s = absurd s
 leader_stores_nothing config (R rm) facts memory p message s = absurd s
 leader_stores_nothing config (L l) facts memory p message s = message_stores_nothing config (last_ballot facts) memory.leader message
 
+-- what a leader decides on a call to commit is what its node does on that request
 pub commit_decides : (old new : LeaderParts) (d : LeaderDecision) (tx : TxParts)
     → ((config : Config) (number : ℕ) → Follows config number old new d
     (λ stored memory. rules.on_commit_call config stored memory tx))
@@ -183,6 +187,7 @@ commit_decides old new d tx h config (L l) facts memory s =
     leader_follows old new d (λ stored memory. rules.on_commit_call config stored memory tx) config l facts memory
     (commit_stores_nothing config (last_ballot facts) memory.leader tx) (h config l) s
 
+-- so it is for a call of a status
 pub status_decides : (p : LeaderParts) (d : LeaderDecision) (tx : TxParts)
     → ((config : Config) (number : ℕ) → Follows config number p p d
     (λ stored memory. rules.on_status_call config stored memory tx))
@@ -231,6 +236,7 @@ module _ (old new : LeaderParts) (d : LeaderDecision) (tx : TxParts) where
     leaves = timeout_leaves config l facts memory tx fact (sym is);
   }
 
+  -- and for a leader's timeout
   pub timeout_decides :
       ((config : Config) (number : ℕ) (stored : StoredBallots) (memory : LeaderMemory) → StandsForBallots config number old stored memory
       → leader_decisions.shown d ≡ decision_of (rules.on_leader_timeout config number stored memory tx))
@@ -263,6 +269,7 @@ module _ (old new : LeaderParts) (d : LeaderDecision) (tx : TxParts) where
 
 -- ---- what a resource manager is asked
 
+-- what a resource manager answers to a call of a branch is what its node does on that request
 pub call_decides : (old new : ManagerParts) (x : XidParts) (action : Action) (answer : Answer)
     → ((config : Config) (number : ℕ) → IsCall config number old new x action answer)
     → Decides (Role.Manager old) (Role.Manager new) (answering answer)
@@ -278,6 +285,7 @@ call_decides old new x action answer h config (R rm) facts memory s = record {
 
 -- ---- what is decided, under other names
 
+-- what is said of a decision and a request holds of equal ones
 pub asked_so : (old new : Role) (d e : Decision) (r s : Request) → d ≡ e → r ≡ s
     → Decides old new e (λ config who facts memory. on_request config who facts memory s)
     → Decides old new d (λ config who facts memory. on_request config who facts memory r)

@@ -427,6 +427,7 @@ module _ (config : Config) (who : NodeId) (own : List Row) (m : NodeState) (inpu
         armed_is = again.armed_is;
       }
 
+  -- where nothing is armed, what comes of an input is what its act leaves
   pub acts_of : (sizes : Sizes) (old new : Held) (was role : Option Role) (out : Output) → old.armed ≡ None → old.nature.may_fail ≡ false
       → AreSizes config sizes → Handles who sizes input old new was role out → Stands config who own held was m
       → ActsOn config who own (place was) input out role old new
@@ -455,6 +456,7 @@ module _ (config : Config) (who : NodeId) (own : List Row) where
   gathers_stands from to [] (o ∷ outs) text s g = absurd g
   gathers_stands from to (i ∷ inputs) [] text s g = absurd g
 
+  -- the inputs that were gathered, and one more
   pub gathers_more : (from : Place) (inputs : List Input) (outs : List Output) (role after : Option Role) (old mid new : Held)
       → (input : Input) (out : Output) → from.held.armed ≡ None → Stands config who own from.held from.role from.state
       → GathersOn config who own from inputs outs role old mid
@@ -496,6 +498,7 @@ module _ (config : Config) (who : NodeId) (own : List Row) where
     nature = is.nature ∙ sym b.nature;
   }
 
+  -- what comes of a group once all that it gathered was appended, or was not
   pub comes : (from : Place) (inputs : List Input) (outs : List Output) (role : Option Role) (frames all : Held) (text : List ℕ)
       (new : Held)
       → from.held.armed ≡ None → frames.bytes ≡ [] → GathersOn config who own from inputs outs role frames all → text ≡ all.bytes

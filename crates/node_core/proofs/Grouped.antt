@@ -24,6 +24,7 @@ module _ (config : Config) (who : NodeId) (own : List Row) where
   map_same x [] (i ∷ inputs) len = absurd (omega (arith, len))
   map_same x (o ∷ outs) [] len = absurd (omega (arith, len))
 
+  -- what comes of a group whose append stopped is said of the node that is down
   pub group_stopped : (from : Place) (inputs : List Input) (outs last : List Output) (was role : Option Role) (new : Held)
       → (error : RecordError) (refusal : Refusal) → Comes config who own from inputs outs was new (Err error) → role ≡ None
       → refusal ≡ refusal_of error → length outs ≡ length inputs
@@ -38,6 +39,7 @@ module _ (config : Config) (who : NodeId) (own : List Row) where
 
   -- ---- a node still stands for a node of the machine, and its record may fail of itself as before
 
+  -- a node stands for what it did where only the room that it keeps changed
   pub kept_stands : (old new : Held) (role : Option Role) (m : NodeState) → IsSameButKept old new → Stands config who own old role m
       → Stands config who own new role m
   kept_stands old new role m same s = record {
@@ -48,6 +50,7 @@ module _ (config : Config) (who : NodeId) (own : List Row) where
     tear_is = s.tear_is ∙ sym same.armed;
   }
 
+  -- after the inputs that ran, a node stands for the state that they lead to
   pub runs_stand : (from to : Place) (inputs : List Input) (outs : List Output) → Stands config who own from.held from.role from.state
       → Runs config who own from inputs outs to → Stands config who own to.held to.role to.state
   runs_stand from to [] [] s r = subst (λ (p : Place). Stands config who own p.held p.role p.state) (sym r) s
@@ -99,6 +102,7 @@ module _ (node : NodeParts) (held : Held) (role : Option Role) (inputs : List In
   abbrev node_after : NodeParts
   node_after = record { who = node.who; sizes = node.sizes; rows = node.rows; held = held; role = role }
 
+  -- a sound node is sound after a group
   pub sound_group : IsSound node
       → ((config : Config) (m : NodeState) → AreSizes config node.sizes → Stands config node.who node.rows node.held node.role m
       → Groups config node.who node.rows (record { state = m; held = node.held; role = node.role }) inputs outs role held result)
@@ -116,6 +120,7 @@ module _ (node : NodeParts) (held : Held) (role : Option Role) (inputs : List In
         is = record { sizes_are = sound.is.sizes_are; stands = stands.1 };
       }
 
+  -- what a group of the parts comes to is what it comes to at the node
   pub groups_as : (config : Config) (m : NodeState)
       → Groups config node.who node.rows (record { state = m; held = node.held; role = node.role }) inputs outs role held result
       → AppendsOnce node.held held result → GroupsAs config m inputs node node_after outs result

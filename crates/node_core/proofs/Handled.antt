@@ -24,6 +24,7 @@ module _ (config : Config) (who : NodeId) (sizes : Sizes) (own : List Row) (m : 
   found_again old new was role out h s =
       steps_down config who own m input old out (subst (λ r. Stands config who own old r m) h.was_is s) h.accepted h.out_is
 
+  -- what a node makes of an input is a step of the machine
   pub steps_of : (old new : Held) (was role : Option Role) (out : Output) → AreSizes config sizes
       → Handles who sizes input old new was role out → Stands config who own old was m → Steps config who own m input old new role out
   steps_of old new was role out are (inl h) s =

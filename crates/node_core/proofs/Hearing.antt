@@ -36,13 +36,16 @@ noise_by bytes (Some k) is none = let s = spelled k bytes is in absurd (none k s
 is_noise : (bytes : List ℕ) → ((k : Kind) → IsMessage k → bytes ≢ spelling k) → datagram_input bytes ≡ ReceivedNoise
 is_noise bytes none = noise_by bytes (message_at bytes) refl none
 
+-- bytes that spell a message are the input that this message is received
 pub is_received : (bytes : List ℕ) (k : Kind) → Spells k bytes → datagram_input bytes ≡ Received k
 is_received bytes k spells = ap handed (found k bytes spells)
 
+-- each node accepts what was read of a datagram as an input
 pub accepted_by : (who : NodeId) (read : Option Kind) → accepts_input who (handed read) ≡ true
 accepted_by who None = refl
 accepted_by who (Some k) = refl
 
+-- a node that is down answers what was read of a datagram as it does any datagram
 pub down_by : (read : Option Kind) → down_answer (handed read) ≡ Refused Refusal.Down
 down_by None = refl
 down_by (Some k) = refl
@@ -51,6 +54,7 @@ module _ (config : Config) (who : NodeId) (facts : List Fact) (memory : Memory) 
   abbrev heard : List ℕ → Effect Memory
   heard bytes = effect_of config who facts memory (datagram_input bytes)
 
+  -- what bytes come to is what their message comes to, and nothing where it is from outside
   pub heard_is : (bytes : List ℕ) (k : Kind) (inside : Bool) → Spells k bytes → inside ≡ is_message_inside config k
       → heard bytes ≡ (if inside then on_message config who facts memory k else no_effect memory)
   heard_is bytes k inside spells is =
@@ -66,6 +70,7 @@ module _ (config : Config) (who : NodeId) (facts : List Fact) (memory : Memory) 
     kept = record { same = refl; now_is = ap (λ (o : Output). o.now) is; stands = s };
   })
 
+  -- bytes that spell no message are refused, and nothing changes
   pub noise_done : (bytes : List ℕ) (out : Output) → ((k : Kind) → IsMessage k → bytes ≢ spelling k)
       → out ≡ output_of (Refused Refusal.BadMessage) None → RoleStands config who role facts memory
       → IsDone config who facts (heard config who facts memory bytes) held held role out
@@ -73,12 +78,14 @@ module _ (config : Config) (who : NodeId) (facts : List Fact) (memory : Memory) 
       answered (heard config who facts memory bytes) (Refused Refusal.BadMessage) out
       (ap (effect_of config who facts memory) (is_noise bytes none)) is s
 
+  -- a message from outside of the cluster is dropped
   pub outside_done : (bytes : List ℕ) (k : Kind) (out : Output) → Spells k bytes → false ≡ is_message_inside config k
       → out ≡ output_of Answer.Done None → RoleStands config who role facts memory
       → IsDone config who facts (heard config who facts memory bytes) held held role out
   outside_done bytes k out spells is out_is s =
       answered (heard config who facts memory bytes) Answer.Done out (heard_is config who facts memory bytes k false spells is) out_is s
 
+  -- what a message inside comes to is what its bytes come to
   pub inside_carries : (bytes : List ℕ) (k : Kind) (new : Held) (now : Role) (done : Result Output Output) → Spells k bytes
       → true ≡ is_message_inside config k
       → Carries config who facts memory (on_message config who facts memory k) held new now done

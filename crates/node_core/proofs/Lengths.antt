@@ -112,6 +112,7 @@ says_no_more from (L l) (Some rows) all facts bytes tail means stored play = abs
 
 -- ---- a record that keeps facts, and the shorter one of these
 
+-- a record is no longer once it was made shorter
 pub no_longer : (config : Config) (who : NodeId) (own : List Row) (old next : List ℕ) (facts : List Fact) (rest : List ℕ)
     → Keeps config who own old facts rest → IsShorter config who facts next → IsNoLonger old next
 no_longer config who own old next facts rest keeps h before after tail end held now =

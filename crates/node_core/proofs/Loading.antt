@@ -66,6 +66,7 @@ plain_compacted (fact ∷ facts) all rows others is c =
     let e : entries.Fact fact ∷ of_facts facts ≡ entries.Snapshot ∷ (map row_entry rows ++ c.later) = sym is ∙ c.all_is in
     absurd (cc (e))
 
+-- what a record keeps: the rows of its snapshot, where it has one, and facts
 abbrev pub both_parts : Option (List Row) → List Fact → Kept
 both_parts rows facts = record { rows = rows; facts = facts }
 
@@ -88,6 +89,7 @@ same_meaning (L l) all None (Some others) facts more p q = absurd q
 
 -- ---- what a record holds is known
 
+-- two readings of the same bytes find the same kept
 pub same_holds : (config other : Config) (who : NodeId) (bytes : List ℕ) (kept others : Kept) (tail end : List ℕ)
     → Holds config who bytes kept tail → Holds other who bytes others end → kept ≡ others
 same_holds config other who bytes kept others tail end h k =
@@ -107,6 +109,7 @@ frames_stored (entry ∷ all) bytes tail stored =
     stored_joined (entry ∷ []) all (frame version_2 entry) (frames_of all) []
     (one_stored Second entry (entry_in_version_2 entry stored.1.valid.valid)) (frames_stored all stored.0 tail stored.2)
 
+-- either way, two lists are the same
 pub either_same : (xs ys : List ℕ) → (xs ≡ ys) ⊎ (xs ≡ ys) → xs ≡ ys
 either_same xs ys (inl e) = e
 either_same xs ys (inr e) = e
@@ -266,6 +269,7 @@ module _ (config : Config) (who : NodeId) (own : List Row) (old : Held) (role : 
   read_old : IsRecordRead config who own old.bytes role len
   read_old = subst (λ bs. IsRecordRead config who own bs role len) bytes_are h
 
+  -- a load whose cut of the tail failed
   pub load_cut : (new : Held) (e : RecordError) (refusal : Refusal) → refusal ≡ refusal_of e → HasPut (take len mid.bytes) mid new (Err e)
       → Loads config who own old new (Err refusal)
   load_cut new e refusal is put =
@@ -281,8 +285,10 @@ module _ (config : Config) (who : NodeId) (own : List Row) (old : Held) (role : 
     pub left_is : now.bytes ≡ take len bytes
     left_is = ap (λ (r : Held). r.bytes) now_is ∙ ap (take len) (sym bytes_are)
 
+    -- a load whose record was rewritten
     pub load_done : Rewrites now new (Ok tt) → Loads config who own old new (Ok role)
     load_done rewrites = migrated config who own old role len read_old now new now_is rewrites
 
+    -- a load whose rewriting failed
     pub load_stopped : (e : Refusal) → Rewrites now new (Err e) → Loads config who own old new (Err e)
     load_stopped e rewrites = migrate_refused config who own old role len read_old now new now_is e rewrites

@@ -49,12 +49,14 @@ leader_tells place p unused says config (R rm) facts memory stands = absurd stan
 
 -- ---- what is read of a record
 
+-- a look that left the record as it was and read a role
 pub peeked : (config : Config) (who : NodeId) (own : List Row) (old new : Held) (role : Role) (len : ℕ) (bytes : List ℕ)
     → bytes ≡ old.bytes → new ≡ old → Reads config who own bytes (Ok (role, len)) → Peeks config who own old new (Ok role)
 peeked config who own old new role len bytes bytes_are same h =
     let p : IsRecordRead config who own old.bytes role len = subst (λ bs. IsRecordRead config who own bs role len) bytes_are h in
     record { kept = p.kept; tail = drop len old.bytes; held = p.holds; same = same; stands = p.stands }
 
+-- a look that left it as it was and was refused
 pub unpeeked : (config : Config) (who : NodeId) (own : List Row) (old new : Held) (bytes : List ℕ) (e : Refusal) → bytes ≡ old.bytes
     → new ≡ old → Reads config who own bytes (Err e) → Peeks config who own old new (Err e)
 unpeeked config who own old new bytes Refusal.Damaged is same h = (same, subst (IsBad config who) is h)
@@ -67,25 +69,30 @@ module _ (config : Config) (who : NodeId) (own : List Row) (m : NodeState) (old 
   abbrev pub Standing : Role → Type 0
   Standing r = (memory : Memory) × RoleStands config who r m.facts memory
 
+  -- the role of a node that is up stands for its memory
   pub up_stands : (up : Role) → role ≡ Some up → Standing up
   up_stands up is =
       let t : Stands config who own old (Some up) m = subst (λ r. Stands config who own old r m) is s in
       (m.memory, t.role_is.2)
 
+  -- so does the role that was read of a node that is down
   pub down_stands : (read : Role) → Peeks config who own old new (Ok read) → Standing read
   down_stands read p = (empty_memory, same_role config who own m old role s read p.kept p.tail p.held p.stands)
 
   stays : new ≡ old → Stands config who own new role m
   stays is = subst (λ (h : Held). Stands config who own h role m) (sym is) s
 
+  -- what such a role says of a transaction is the node's view of it
   pub says_view : (r : Role) (tx : TxParts) (result : Result View Refusal) → new ≡ old → Standing r → SaysAll r tx result
       → Views config who own m old new role tx result
   says_view r tx result is t h = record { stands = stays is; says = inl (is, h config who m.facts t.0 t.1) }
 
+  -- its rows are the node's table
   pub says_table : (r : Role) (result : Result (List Row) Refusal) → new ≡ old → Standing r → TablesAll r result
       → Tables config who own m old new role result
   says_table r result is t h = record { stands = stays is; says = inl (is, h config who m.facts t.0 t.1) }
 
+  -- what it tells of a place is what the node is asked
   pub says_unused : (r : Role) (place : Place) (unused : Bool) → new ≡ old → Standing r → TellsUnused place r unused
       → AsksUnused config who own m old new role place (Ok unused)
   says_unused r place unused is t h = record { stands = stays is; says = inl (is, ap Ok (h config who m.facts t.0 t.1)) }
@@ -113,13 +120,16 @@ module _ (config : Config) (who : NodeId) (own : List Row) (m : NodeState) (old 
   unread X none Refusal.NoMemory p = record { stands = stays p; is = (none, inr (refl, p)) }
   unread X none other p = absurd p
 
+  -- a view that could not be read is refused
   pub unread_view : (tx : TxParts) → role ≡ None → (e : Refusal) → Peeks config who own old new (Err e)
       → Views config who own m old new role tx (Err e)
   unread_view tx none e p = let u = unread View none e p in record { stands = u.stands; says = inr u.is }
 
+  -- so is a table
   pub unread_table : role ≡ None → (e : Refusal) → Peeks config who own old new (Err e) → Tables config who own m old new role (Err e)
   unread_table none e p = let u = unread (List Row) none e p in record { stands = u.stands; says = inr u.is }
 
+  -- and what is asked of a place
   pub unread_unused : (place : Place) → role ≡ None → (e : Refusal) → Peeks config who own old new (Err e)
       → AsksUnused config who own m old new role place (Err e)
   unread_unused place none e p = let u = unread Bool none e p in record { stands = u.stands; says = inr u.is }
@@ -156,14 +166,17 @@ module _ (node : NodeParts) (held : Held) where
   said_nature X P result (inr (none, inl is)) = is.1.nature
   said_nature X P result (inr (none, inr is)) = ap (λ (r : Held). r.nature) is.1
 
+  -- a view of the parts is a view of the node
   pub views_as : (config : Config) (m : NodeState) (tx : TxParts) (result : Result View Refusal)
       → Views config node.who node.rows m node.held held node.role tx result → ViewsAs config m node with_held tx result
   views_as config m tx result v = record { same = same_with (said_nature View _ result v.says); role_is = refl; views = v }
 
+  -- so is a table
   pub tables_as : (config : Config) (m : NodeState) (result : Result (List Row) Refusal)
       → Tables config node.who node.rows m node.held held node.role result → TablesAs config m node with_held result
   tables_as config m result v = record { same = same_with (said_nature (List Row) _ result v.says); role_is = refl; tables = v }
 
+  -- and what is asked of a place
   pub unused_as : (config : Config) (m : NodeState) (place : Place) (result : Result Bool Refusal)
       → AsksUnused config node.who node.rows m node.held held node.role place result → AsksUnusedAs config m node with_held place result
   unused_as config m place result a = record { same = same_with (said_nature Bool _ result a.says); role_is = refl; asks = a }
@@ -179,6 +192,7 @@ armed_stands config who own m old new role n is s =
     armed None t = record { tail = t.tail; keeps = t.keeps; played = t.played; role_is = t.role_is; tear_is = refl }
     armed (Some up) t = record { tail = t.tail; keeps = t.keeps; played = t.played; role_is = t.role_is; tear_is = refl }
 
+-- a sound node is sound once a fault was armed
 pub sound_armed : (node : NodeParts) (held : Held) (n : ℕ) → held ≡ armed_with (Some n) node.held → IsSound node
     → IsSound (with_held node held)
 sound_armed node held n is sound = record {
@@ -200,12 +214,14 @@ pub views_from : (inside old new : NodeParts) (tx : TxParts) (result : Result Vi
 views_from inside old new tx result is h config m s =
     subst (λ o. ViewsAs config m o new tx result) is (h config m (subst (λ o. NodeStands config o m) (sym is) s))
 
+-- a table of a node is one of an equal node
 pub tables_from : (inside old new : NodeParts) (result : Result (List Row) Refusal) → inside ≡ old
     → ((config : Config) (m : NodeState) → NodeStands config inside m → TablesAs config m inside new result)
     → (config : Config) (m : NodeState) → NodeStands config old m → TablesAs config m old new result
 tables_from inside old new result is h config m s =
     subst (λ o. TablesAs config m o new result) is (h config m (subst (λ o. NodeStands config o m) (sym is) s))
 
+-- so is what is asked of a place
 pub unused_from : (inside old new : NodeParts) (place : Place) (result : Result Bool Refusal) → inside ≡ old
     → ((config : Config) (m : NodeState) → NodeStands config inside m → AsksUnusedAs config m inside new place result)
     → (config : Config) (m : NodeState) → NodeStands config old m → AsksUnusedAs config m old new place result
@@ -223,6 +239,7 @@ views_over sizes who own rows old new role tx result is h =
     subst (λ r. (config : Config) (m : NodeState) → AreSizes config sizes → Stands config who r old role m
     → Views config who r m old new role tx result) is h
 
+-- a table over some rows is one over equal rows
 pub tables_over : (sizes : Sizes) (who : NodeId) (own rows : List Row) (old new : Held) (role : Option Role)
     (result : Result (List Row) Refusal) → own ≡ rows
     → ((config : Config) (m : NodeState) → AreSizes config sizes → Stands config who own old role m
@@ -233,6 +250,7 @@ tables_over sizes who own rows old new role result is h =
     subst (λ r. (config : Config) (m : NodeState) → AreSizes config sizes → Stands config who r old role m
     → Tables config who r m old new role result) is h
 
+-- so is what is asked of a place
 pub unused_over : (sizes : Sizes) (who : NodeId) (own rows : List Row) (old new : Held) (role : Option Role) (place : Place)
     (result : Result Bool Refusal) → own ≡ rows
     → ((config : Config) (m : NodeState) → AreSizes config sizes → Stands config who own old role m

@@ -11,6 +11,7 @@ use Rattle.node_core.specs.Configs.{is_among, config_by}
 use Rattle.node_core.specs.Nodes.{AreSizes}
 use Rattle.node_core.specs.Places.{node_count, node_in}
 
+-- how many nodes a cluster has
 abbrev pub count_of : Config → ℕ
 count_of config = config.acceptors + config.leaders + config.managers
 
@@ -28,9 +29,11 @@ module _ (config : Config) (at : ℕ) where
       else if l then L (at - config.acceptors)
       else R (at - config.acceptors - config.leaders)
 
+  -- the first places are those of acceptors
   pub acceptor_named : at < config.acceptors → node_in config at ≡ A at
   acceptor_named lt = ap (λ (a : Bool). name_by a is_leader) (lt-ltb at config.acceptors lt)
 
+  -- those behind them are leaders'
   pub leader_named : config.acceptors ≤ at → at < config.acceptors + config.leaders → node_in config at ≡ L (at - config.acceptors)
   leader_named le lt =
       ap (λ (a : Bool). name_by a is_leader) (le-ltb at config.acceptors le)
@@ -103,6 +106,7 @@ module _ (config : Config) (at : ℕ) (lt : at < count_of config) where
       let le : config.acceptors + config.leaders ≤ at = ltb-false at (config.acceptors + config.leaders) f in
       placed_as (R (at - config.acceptors - config.leaders)) (manager_named config at le) (manager_placed le)
 
+  -- the node at a place stands at that place
   pub name_placed : place config (node_in config at) ≡ Some at
   name_placed = placed_by (nat_lt at config.acceptors) (nat_lt at (config.acceptors + config.leaders)) refl refl
 
@@ -112,6 +116,7 @@ among_placed config (A a) at e = (placed_at (nat_lt a config.acceptors) a at e).
 among_placed config (L l) at e = (placed_at (nat_lt l config.leaders) (config.acceptors + l) at e).0
 among_placed config (R rm) at e = (placed_at (nat_lt rm config.managers) (config.acceptors + config.leaders + rm) at e).0
 
+-- the sizes of a cluster say which node stands where
 pub name_as : (config : Config) (sizes : Sizes) → AreSizes config sizes → (at : ℕ) → node_in (config_by sizes []) at ≡ node_in config at
 name_as config sizes are at =
     ap (λ (a : ℕ). if nat_lt at a then A at else if nat_lt at (a + sizes.leaders) then L (at - a) else R (at - a - sizes.leaders))
@@ -144,6 +149,7 @@ first_below number bound at true e h =
     omega (arith, lt, same)
 first_below number bound at false e h = absurd (cc (h))
 
+-- a node stands at a place below the count of nodes
 pub place_within : (config : Config) (who : NodeId) (at : ℕ) → place config who ≡ Some at
     → at < config.acceptors + config.leaders + config.managers
 place_within config (A a) at h =

@@ -35,6 +35,7 @@ abbrev ready_parts : {Value : Type 0} → Part Value → (old new : Value) → F
 ready_parts part old new fact =
     ((facts : List Fact) → part.StandsFor old facts → part.StandsFor new facts) × part.IsReadyFor new fact
 
+-- what is refused in making ready is refused for want of memory
 pub refuses_memory : {Value : Type 0} (part : Part Value) (old new : Value) (fact : Fact) (r : Result (Unit {0}) Refusal)
     → IsMadeReady part old new fact r → IfErr r (λ e. e ≡ NoMemory)
 refuses_memory part old new fact (Ok done) h = tt
@@ -74,6 +75,7 @@ manager_ready old new fact h config (R rm) facts memory s =
 abbrev IsReadied : (self new : Role) → Fact → Result (Unit {0}) Refusal → Type 0
 IsReadied self new fact r = OnOk r (IsSame self new × HasRoomFor new fact)
 
+-- an acceptor that was made ready for a fact is a role that was
 pub acceptor_readied : (self : Role) (old new : AcceptorParts) (fact : Fact) (r : Result (Unit {0}) Refusal) → self ≡ Role.Acceptor old
     → ((config : Config) (number : ℕ) → IsMadeReady (acceptor_part config number) old new fact r)
     → IsReadied self (Role.Acceptor new) fact r
@@ -81,6 +83,7 @@ acceptor_readied self old new fact (Err e) is h = tt
 acceptor_readied self old new fact (Ok tt) is h =
     subst (λ x. IsReadied x (Role.Acceptor new) fact (Ok tt)) (sym is) (acceptor_ready old new fact h, (h no_config 0).1)
 
+-- so is a leader
 pub leader_readied : (self : Role) (old new : LeaderParts) (fact : Fact) (r : Result (Unit {0}) Refusal) → self ≡ Role.Leader old
     → ((config : Config) (number : ℕ) (memory : LeaderMemory) → IsMadeReady (leader_part config number memory) old new fact r)
     → IsReadied self (Role.Leader new) fact r
@@ -89,6 +92,7 @@ leader_readied self old new fact (Ok tt) is h =
     subst (λ x. IsReadied x (Role.Leader new) fact (Ok tt)) (sym is)
     (leader_ready old new fact h, λ config number memory. (h config number memory).1)
 
+-- and a resource manager
 pub manager_readied : (self : Role) (old new : ManagerParts) (fact : Fact) (r : Result (Unit {0}) Refusal) → self ≡ Role.Manager old
     → ((config : Config) (number : ℕ) (branches : List Branch) → IsMadeReady (placed_part config number branches) old new fact r)
     → IsReadied self (Role.Manager new) fact r
@@ -112,6 +116,7 @@ part_takes part old new facts fact (Err Refusal.Damaged) h s plays ready =
 part_takes part old new facts fact (Err Refusal.NoMemory) h s plays ready = absurd (h.1 ready)
 part_takes part old new facts fact (Err other) h s plays ready = absurd h
 
+-- an acceptor that played a fact is a role that took it
 pub acceptor_takes : (old new : AcceptorParts) (fact : Fact) (r : Result (Unit {0}) Refusal)
     → ((config : Config) (number : ℕ) → IsPlayed (acceptor_part config number) old new fact r)
     → TakesFact (Role.Acceptor old) (Role.Acceptor new) fact r
@@ -134,6 +139,7 @@ idle_ready config rm p facts branches s (Fact.VotePrepared tx keys) idle room =
     (room, idle_there config rm p facts branches s tx idle.0 keys idle.1 idle.2)
 idle_ready config rm p facts branches s other idle room = room
 
+-- so is a resource manager
 pub manager_takes : (old new : ManagerParts) (fact : Fact) (r : Result (Unit {0}) Refusal)
     → ((config : Config) (number : ℕ) (branches : List Branch) → manager_specs.IsPlayable number branches fact
     → IsPlayed (manager_part config number branches) old new fact r)
@@ -154,6 +160,7 @@ ballot_some : (leaders l : ℕ) (facts : List Fact) (tx : TxParts) (b : ℕ)
 ballot_some leaders l facts tx b h = search (rules, tests, (and_parts (nat_lt (last_ballot facts tx) b) _ h).0)
 
 module _ (old played new : LeaderParts) (tx : TxParts) (b : ℕ) (fact : Fact) (is : fact ≡ Fact.Ballot tx b) where
+  -- and a leader
   pub leader_takes : (r : Result (Unit {0}) Refusal) → r ≡ Ok tt
       → ((config : Config) (number : ℕ) (memory : LeaderMemory) → IsPlayed (leader_part config number memory) old played fact r)
       → ((config : Config) (number : ℕ) (stored : StoredBallots) (memory : LeaderMemory)
@@ -215,6 +222,7 @@ playable_alone : (rm : ℕ) (fact : Fact) → manager_specs.IsPlayable rm [] fac
 playable_alone rm (Fact.VotePrepared tx keys) = inl refl
 playable_alone rm other = tt
 
+-- an acceptor that played a fact of its record is a role that replays it
 pub acceptor_replays : (old new : AcceptorParts) (fact : Fact) (r : Result (Unit {0}) Refusal)
     → ((config : Config) (number : ℕ) → IsPlayed (acceptor_part config number) old new fact r)
     → Replays (Role.Acceptor old) (Role.Acceptor new) fact r
@@ -223,6 +231,7 @@ acceptor_replays old new fact r h config (A a) facts s =
 acceptor_replays old new fact r h config (L l) facts s = absurd s
 acceptor_replays old new fact r h config (R rm) facts s = absurd s
 
+-- so is a leader
 pub leader_replays : (old new : LeaderParts) (fact : Fact) (r : Result (Unit {0}) Refusal)
     → ((config : Config) (number : ℕ) (memory : LeaderMemory) → IsPlayed (leader_part config number memory) old new fact r)
     → Replays (Role.Leader old) (Role.Leader new) fact r
@@ -232,6 +241,7 @@ leader_replays old new fact r h config (L l) facts s =
     replayed (leader_part config l empty_memory.leader) old new config (L l) (Role.Leader new) facts fact r refl (λ x. x)
     (h config l empty_memory.leader) s
 
+-- and a resource manager
 pub manager_replays : (old new : ManagerParts) (fact : Fact) (r : Result (Unit {0}) Refusal)
     → ((config : Config) (number : ℕ) (branches : List Branch) → manager_specs.IsPlayable number branches fact
     → IsPlayed (manager_part config number branches) old new fact r)
@@ -244,10 +254,12 @@ manager_replays old new fact r h config (R rm) facts s =
 
 -- ---- what is played, under other names
 
+-- what is said of a role that takes a fact holds of an equal one
 pub takes_so : (old inner new : Role) (fact : Fact) (r : Result (Unit {0}) Refusal) → old ≡ inner → TakesFact inner new fact r
     → TakesFact old new fact r
 takes_so old inner new fact r is h = subst (λ x. TakesFact x new fact r) (sym is) h
 
+-- so does what is said of a role that replays it
 pub replays_so : (old inner new : Role) (fact : Fact) (r : Result (Unit {0}) Refusal) → old ≡ inner → Replays inner new fact r
     → Replays old new fact r
 replays_so old inner new fact r is h = subst (λ x. Replays x new fact r) (sym is) h

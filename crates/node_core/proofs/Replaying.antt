@@ -117,9 +117,11 @@ module _ (config : Config) (who : NodeId) (compacted : Bool) (bytes : List ℕ) 
 
   -- the first entry of what is left was played, or why not
   module _ (rest : List ℕ) (role new : Role) (h : HasPlayedTo config who compacted bytes rest role) where
+    -- all was played to where the first entry that was played leads
     pub first_on : (after : List ℕ) → IsFirstPlayed compacted rest after role new (Ok tt) → HasPlayedTo config who compacted bytes after new
     first_on after p = played_on rest after role h p.entry p.framed new (p.plays config who (meant h.read) h.stands)
 
+    -- where the first entry is refused, the whole is
     pub refused_first : (e : Refusal) → PlaysFirst compacted rest role new (Err e) → IsPlayedWhole config who compacted bytes new (Err e)
     refused_first e (inl p) = refused_entry rest p.0 role new h p.1.entry p.1.framed e (p.1.plays config who (meant h.read) h.stands)
     refused_first e (inr is) = refused_frame rest role new e h is

@@ -49,6 +49,7 @@ module _ (config : Config) (who : NodeId) (own : List Row) (m : NodeState) (old 
       (s.keeps.same.stands [] role empty_memory
       (subst (λ fs. RoleStands (begun config who own k.rows) who role fs empty_memory) (sym (append-nil k.facts)) h))
 
+  -- a node that is down stands for what its record holds
   pub down_stands : (new : Held) (tail : List ℕ) → Holds config who new.bytes s.keeps.kept tail → new.armed ≡ old.armed
       → Stands config who own new None (down_node m)
   down_stands new tail h armed = record {
@@ -59,6 +60,7 @@ module _ (config : Config) (who : NodeId) (own : List Row) (m : NodeState) (old 
     tear_is = s.tear_is ∙ sym armed;
   }
 
+  -- a restart whose record was loaded
   pub restarted : (new : Held) (role : Role) → IsLoaded config who own old new role
       → Restarts config who own m old new (Some role) (Ok tt)
   restarted new role l =
@@ -89,6 +91,7 @@ module _ (config : Config) (who : NodeId) (own : List Row) (m : NodeState) (old 
         stands = subst (λ (o : Outcome). Stands config who own new (Some role) o.node) is stands;
       }
 
+  -- a restart whose record could not be loaded
   pub unrestarted : (new : Held) (e : Refusal) → Loads config who own old new (Err e) → Restarts config who own m old new None (Err e)
   unrestarted new Refusal.Damaged l = absurd (l.1 s.keeps.kept s.tail s.keeps.holds)
   unrestarted new Refusal.RecordFault (l, left) =
@@ -125,6 +128,7 @@ module _ (node : NodeParts) (held : Held) (role : Option Role) where
   abbrev restarted_node : NodeParts
   restarted_node = record { who = node.who; sizes = node.sizes; rows = node.rows; held = held; role = role }
 
+  -- a sound node is sound after a restart
   pub sound_restart : (result : Result (Unit {0}) Refusal) → IsSound node
       → ((config : Config) (m : NodeState) → AreSizes config node.sizes → Stands config node.who node.rows node.held node.role m
       → Restarts config node.who node.rows m node.held held role result) → IsSound restarted_node
@@ -139,6 +143,7 @@ module _ (node : NodeParts) (held : Held) (role : Option Role) where
         is = record { sizes_are = sound.is.sizes_are; stands = r.stands };
       }
 
+  -- what a restart of the parts comes to is what it comes to at the node
   pub restarts_as : (config : Config) (m : NodeState) (result : Result (Unit {0}) Refusal)
       → Restarts config node.who node.rows m node.held held role result → RestartsAs config m node restarted_node result
   restarts_as config m result r = record {
@@ -169,6 +174,7 @@ restarts_over sizes who own rows old new was role result is h =
     subst (λ r. (config : Config) (m : NodeState) → AreSizes config sizes → Stands config who r old was m
     → Restarts config who r m old new role result) is h
 
+-- what was loaded over some rows was over equal rows
 pub loads_over : (config : Config) (who : NodeId) (own rows : List Row) (old new : Held) (result : Result Role Refusal) → own ≡ rows
     → Loads config who own old new result → Loads config who rows old new result
 loads_over config who own rows old new result is h = subst (λ r. Loads config who r old new result) is h
@@ -288,10 +294,12 @@ module _ (config : Config) (who : NodeId) (own : List Row) (old new : Held) (rol
     node_stands : NodeStands opened_in opened_node opened_state
     node_stands = record { sizes_are = cluster_sizes config who l.kept.rows sizes are; stands = opened_stands }
 
+    -- a node that was opened is sound
     pub sound_opened : IsSized sizes → IsAmong sizes who → are_rows own ≡ true → IsSound opened_node
     sound_opened sized among short =
         record { sized = sized; among = among; short = short; config = opened_in; state = opened_state; is = node_stands }
 
+    -- it stands for what its record said
     pub is_opened : IsOpened config who old opened_node
     is_opened = record {
       kept = l.kept;
@@ -316,6 +324,7 @@ none_kept who kept means = by who kept.rows kept.facts means
     by (A a) (Some rows) facts means = absurd means
     by (L l) (Some rows) facts means = absurd means
 
+-- on an empty record it is the node of the machine that nothing happened to
 pub opened_empty : (config : Config) (who : NodeId) (old : Held) (node : NodeParts) → old.bytes ≡ [] → IsOpened config who old node
     → NodeStands config node (record { facts = []; up = true; tear = old.armed; memory = empty_memory })
 opened_empty config who old node empty is =
@@ -325,6 +334,7 @@ opened_empty config who old node empty is =
     subst (λ (k : Kept). NodeStands (cluster_of config who k.rows) node
     (record { facts = k.facts; up = true; tear = old.armed; memory = empty_memory })) none is.stands
 
+-- a record that could not be loaded opens no node
 pub is_unopened : (config : Config) (who : NodeId) (own : List Row) (old new : Held) (e : Refusal) → is_among config who ≡ true
     → Loads config who own old new (Err e) → IsUnopened config who old new e
 is_unopened config who own old new Refusal.Damaged among l = (among, l.0, l.1)

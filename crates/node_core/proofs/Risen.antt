@@ -35,6 +35,7 @@ use Rattle.node_core.specs.Roles.{RoleStands}
 -- ---- one role
 
 module _ (place : Place) where
+  -- what a leader leaves below a place is what its role leaves there
   pub leader_leaves : (p left : LeaderParts)
       → ((config : Config) (number : ℕ) (facts : List Fact) (memory : LeaderMemory) → of_leader.StandsFor config number p facts memory
       → of_leader.StandsFor config number left (kept_facts (Some place) facts) (kept_leader (Some place) memory))
@@ -45,6 +46,7 @@ module _ (place : Place) where
       (sym goes.alike) (h config l facts memory.leader s)
   leader_leaves p left h config next (R rm) facts memory s clear goes = absurd s
 
+  -- so it is for a resource manager
   pub manager_leaves : (p left : ManagerParts)
       → ((config next : Config) (number : ℕ) (facts : List Fact) (branches : List Branch)
       → of_manager.StandsFor config number p facts branches → are_free_below place facts branches ≡ true
@@ -192,11 +194,13 @@ module _ (config : Config) (who : NodeId) (own : List Row) (m : NodeState) (plac
       clear_now : is_clear_below who place m.facts m.memory ≡ true
       clear_now = sym (tells config who m.facts m.memory stands_up.role_is.2)
 
+      -- a floor that rose
       pub raised_done : (left : Role) → Forgets place up old new (Ok left) → Raises config who own m place old new was (Some left) (Ok tt)
       raised_done left h =
           subst (λ (r : Option Role). Raises config who own m place old new r (Some left) (Ok tt)) (sym is)
           (up_raised config who own m place old new up stands_up clear_now left h)
 
+      -- a floor that did not: its node is down
       pub raised_refused : (e : Refusal) → Forgets place up old new (Err e) → Raises config who own m place old new was None (Err e)
       raised_refused e h =
           subst (λ (r : Option Role). Raises config who own m place old new r None (Err e)) (sym is)
@@ -234,6 +238,7 @@ module _ (old : NodeParts) (sound : IsSound old) where
     is = record { sizes_are = sized; stands = stands };
   }
 
+  -- a sound node that is down is sound
   pub stopped_sound : IsSound (record old { role = None })
   stopped_sound =
       sound_as old.held None sound.config (down_node sound.state) sound.is.sizes_are
@@ -253,6 +258,7 @@ module _ (old : NodeParts) (sound : IsSound old) where
         subst (λ (r : Option Role). IsSound (raised r)) (sym is)
         (subst (λ (held : Held). IsSound (record old { held = held })) (sym (ap (λ (b : BehindParts). b.held) same ∙ held_is)) sound)
 
+    -- a node is sound after its floor was to rise
     pub raised_sound : (role : Option Role) (result : Result (Unit {0}) Refusal)
         → Raises sound.config old.who old.rows sound.state place before after old.role role result → IsSound (raised role)
     raised_sound role (Ok done) (up, clear, faults, armed, is) = risen_sound sound.state role is

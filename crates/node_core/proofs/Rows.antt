@@ -36,6 +36,7 @@ entry_of_row entries.Snapshot row is = absurd (cc (is))
 entry_of_row (entries.PastCommitted tx) row is = absurd (cc (is))
 entry_of_row (entries.PastAborted tx) row is = absurd (cc (is))
 
+-- an entry has one row
 pub same_row : (a b : Row) → row_entry a ≡ row_entry b → a ≡ b
 same_row a b is =
     let whole : Some a ≡ Some b = ap row_of is in
@@ -78,6 +79,7 @@ follows_last (first ∷ second ∷ rows) row =
 
 module _ (bytes rest after : List ℕ) (rows : List Row) (entry : Entry) (h : AreRowsTo bytes rest rows) (framed : IsFramed entry rest after)
   where
+    -- one row more stands behind those that were read
     pub rows_on : (row : Row) → row_of entry ≡ Some row → may_follow rows row ≡ true → is_row row ≡ true
         → AreRowsTo bytes after (rows ++ row ∷ [])
     rows_on row is follows short =
@@ -102,6 +104,7 @@ module _ (bytes rest after : List ℕ) (rows : List Row) (entry : Entry) (h : Ar
           subst (λ r. may_follow rows r ≡ false) c not;
     }
 
+-- rows whose reading was refused leave nothing taken
 pub rows_none : (bytes rest : List ℕ) (rows : List Row) (e : Refusal) → AreRowsTo bytes rest rows
     → ((e ≡ Damaged) × HasNoFrame rest) ⊎ (e ≡ NoMemory) → TakesNothing bytes e
 rows_none bytes rest rows e h (inl is) = inl (is.0, damaged_on bytes rest (map row_entry rows) h.up_to (nothing_stored rest is.1))
@@ -147,6 +150,7 @@ module _ (bytes after : List ℕ) (entry : Entry) (framed : IsFramed entry bytes
   snapshot_is (entries.PastCommitted tx) h = absurd (cc (h))
   snapshot_is (entries.PastAborted tx) h = absurd (cc (h))
 
+  -- a snapshot with all its rows was taken
   pub taken_snapshot : is_snapshot entry ≡ true → (rest : List ℕ) (rows : List Row) → AreAllRows after rest rows
       → IsSnapshot bytes rest rows
   taken_snapshot is rest rows h =
@@ -174,11 +178,13 @@ module _ (bytes after : List ℕ) (entry : Entry) (framed : IsFramed entry bytes
             (same.0, subst (λ es. IsStored rest es tail) (sym same.1) came.2);
       }
 
+  -- a snapshot behind which nothing could be taken is none
   pub snapshot_damaged : (e : Refusal) → TakesNothing after e → TakesNothing bytes e
   snapshot_damaged e (inl is) =
       inl (is.0, damaged_on bytes after (entry ∷ []) (read_more bytes bytes after [] entry (nothing_read bytes) framed) is.1)
   snapshot_damaged e (inr is) = inr is
 
+-- where its frame can't be read, nothing is taken
 pub nothing_taken : (bytes : List ℕ) (e : Refusal) → ((e ≡ Damaged) × HasNoFrame bytes) ⊎ (e ≡ NoMemory) → TakesNothing bytes e
 nothing_taken bytes e (inl is) = inl (is.0, nothing_stored bytes is.1)
 nothing_taken bytes e (inr is) = inr is

@@ -125,12 +125,14 @@ acceptor_framed p (Ok frames) is =
     acceptor_shortens frames.items is.kept is.written p is.compacts
 acceptor_framed p (Err e) is = tt
 
+-- the frames of a leader's shorter record make its node's record shorter
 pub leader_framed : (p : LeaderParts) (r : Result (Vec ℕ Global) Refusal) → IfOk r (λ frames. of_leader.AreShorterFrames p frames.items)
     → IfOk r (λ frames. Shortens (Role.Leader p) frames.items)
 leader_framed p (Ok frames) is =
     leader_shortens frames.items is.kept is.written p is.compacts
 leader_framed p (Err e) is = tt
 
+-- so do those of a resource manager's
 pub manager_framed : (p : ManagerParts) (r : Result (Vec ℕ Global) Refusal) → IfOk r (λ frames. AreShorterFrames p frames.items)
     → IfOk r (λ frames. Shortens (Role.Manager p) frames.items)
 manager_framed p (Ok frames) is = manager_shortens frames.items is.all is.written p is.shortened
@@ -246,6 +248,7 @@ module _ (node : NodeParts) (held : Held) (role : Option Role) where
   abbrev compacted_node : NodeParts
   compacted_node = record { who = node.who; sizes = node.sizes; rows = node.rows; held = held; role = role }
 
+  -- a sound node is sound after a compaction
   pub sound_compact : (result : Result (Unit {0}) Refusal) → IsSound node
       → ((config : Config) (who : NodeId) (own : List Row) (m : NodeState) → Stands config who own node.held node.role m
       → Compacts config who own m node.held held role result) → IsSound compacted_node
@@ -270,6 +273,7 @@ module _ (node : NodeParts) (held : Held) (role : Option Role) where
   compacts_nature config who own m result (inl is) = compact_nature node.held held is.fault is.befalls
   compacts_nature config who own m result (inr is) = ap (λ (r : Held). r.nature) is.same
 
+  -- what a compaction of the parts comes to is what it comes to at the node
   pub compacts_as : (config : Config) (m : NodeState) (result : Result (Unit {0}) Refusal)
       → Compacts config node.who node.rows m node.held held role result → CompactsAs config m node compacted_node result
   compacts_as config m result c = record {

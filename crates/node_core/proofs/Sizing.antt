@@ -23,6 +23,7 @@ positive n h = grind (arith, nat_tests)
 less : (m n : ℕ) → nat_lt m n ≡ true → m < n
 less m n h = grind (arith, nat_tests)
 
+-- the sizes of a configuration are within the limits
 pub sized_of : (config : Config) (sizes : Sizes) → AreSizes config sizes → is_config config ≡ true → IsSized sizes
 sized_of config sizes are h =
     let most = (and_parts (are_sizes config.acceptors config.leaders config.managers && (length config.tables == config.managers))
@@ -39,6 +40,7 @@ sized_of config sizes are h =
       leaders = subst (λ n. 0 < n) (sym are.leaders_are) (positive config.leaders some);
     }
 
+-- a node of a configuration is one of its sizes
 pub among_of : (config : Config) (sizes : Sizes) (who : NodeId) → AreSizes config sizes → is_among config who ≡ true → IsAmong sizes who
 among_of config sizes (A a) are h = subst (λ n. a < n) (sym are.acceptors_are) (less a config.acceptors h)
 among_of config sizes (L l) are h = subst (λ n. l < n) (sym are.leaders_are) (less l config.leaders h)

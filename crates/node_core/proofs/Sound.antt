@@ -16,6 +16,7 @@ met_nature : (armed : Option ℕ) (fact : Fact) (old new : Held) → HasMet arme
 met_nature None fact old new met = met.nature
 met_nature (Some n) fact old new met = met.nature
 
+-- what befalls a record leaves its nature
 pub step_nature : (fact : Option Fact) (old new : Held) (fault : Fault) → Befalls fact old new fault → new.nature ≡ old.nature
 step_nature fact old new NoMemoryBefore b = absurd b
 step_nature fact old new NoMemoryAt b = ap (λ (r : Held). r.nature) b
@@ -30,6 +31,7 @@ module _ (node : NodeParts) (held : Held) (role : Option Role) where
   abbrev with_state : NodeParts
   with_state = record { who = node.who; sizes = node.sizes; rows = node.rows; held = held; role = role }
 
+  -- a sound node is sound after a step
   pub sound_step : (input : Input) (out : Output) → IsSound node
       → ((config : Config) (m : NodeState) → AreSizes config node.sizes → Stands config node.who node.rows node.held node.role m
       → Steps config node.who node.rows m input node.held held role out) → IsSound with_state
@@ -44,6 +46,7 @@ module _ (node : NodeParts) (held : Held) (role : Option Role) where
         is = record { sizes_are = sound.is.sizes_are; stands = s.shows.stands };
       }
 
+  -- a step of the parts is a step of the node
   pub steps_as : (config : Config) (m : NodeState) (input : Input) (out : Output)
       → Steps config node.who node.rows m input node.held held role out
       → (is_free node.who input ≡ true → fact_to_store config node.who m input ≡ None

@@ -24,12 +24,14 @@ use Rattle.node_core.specs.Opening.{IsPlain, IsBad, IsRecordRead, Reads}
 
 -- ---- the cluster in which a table begins with the rows of a record
 
+-- a record begins with the rows of its snapshot, or with the node's own
 pub begun_rows : (config : Config) (who : NodeId) (own : List Row) (rows : Option (List Row))
     → HasRows (begun config who own rows) who (unwrap_or rows own)
 begun_rows config (A a) own rows = tt
 begun_rows config (L l) own rows = tt
 begun_rows config (R rm) own rows = sym (begins_with config rm (unwrap_or rows own))
 
+-- its configuration has the same sizes
 pub begun_sizes : (config : Config) (who : NodeId) (own : List Row) (rows : Option (List Row)) (sizes : Sizes) → AreSizes config sizes
     → AreSizes (begun config who own rows) sizes
 begun_sizes config (A a) own rows sizes are = are
@@ -50,9 +52,11 @@ begun_plays config (R rm) own rows before facts = plays_over (begun config (R rm
 
 -- ---- entries that are facts
 
+-- the entries of facts
 abbrev pub of_facts : List Fact → List Entry
 of_facts facts = map entries.Fact facts
 
+-- they mean these facts
 pub meant_facts : (facts : List Fact) → flat_map facts_of (of_facts facts) ≡ facts
 meant_facts [] = refl
 meant_facts (fact ∷ facts) = ap (λ fs. fact ∷ fs) (meant_facts facts)
@@ -178,6 +182,7 @@ module _ (config : Config) (who : NodeId) (own : List Row) (bytes : List ℕ) wh
   plain_unread Refusal.NoMemory plain h = tt
   plain_unread other plain h = absurd h
 
+  -- a record without a snapshot, played whole, is read
   pub plain_reads : (r : Result (Role × ℕ) Refusal) → IsPlain who bytes → IsPlayedFrom plain_from who false bytes r
       → Reads config who own bytes r
   plain_reads (Ok read) plain h = plain_read read.0 read.1 h
@@ -185,6 +190,7 @@ module _ (config : Config) (who : NodeId) (own : List Row) (bytes : List ℕ) wh
 
 -- with one, at whatever node
 module _ (config : Config) (own : List Row) (bytes rest : List ℕ) (rows : List Row) (s : IsSnapshot bytes rest rows) where
+  -- a snapshot and what stands behind it, played whole, are read
   pub snapshot_read : (who : NodeId) → IsManager who → (role : Role) (len : ℕ) → len ≤ length rest
       → IsPlayedFrom (begun config who own (Some rows)) who true rest (Ok (role, len))
       → Reads config who own bytes (Ok (role, length bytes - (length rest - len)))
@@ -194,6 +200,7 @@ module _ (config : Config) (own : List Row) (bytes rest : List ℕ) (rows : List
   snapshot_read (A a) is role len within h = absurd is
   snapshot_read (L l) is role len within h = absurd is
 
+  -- where what stands behind it is refused, the record is
   pub snapshot_unread : (who : NodeId) → IsManager who → (e : Refusal)
       → IsPlayedFrom (begun config who own (Some rows)) who true rest (Err e) → Reads config who own bytes (Err e)
   snapshot_unread (R rm) is e h = compacted_unread config rm own bytes rest rows s e h

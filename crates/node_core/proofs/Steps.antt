@@ -358,12 +358,14 @@ module _ (config : Config) (who : NodeId) (own : List Row) (m : NodeState) (inpu
 
   -- ---- what wants no memory and stores nothing
 
+  -- an input that the node doesn't accept is refused without an append
   pub freely_refused : (held : Held) (role : Option Role) (out : Output) → Stands config who own held role m
       → accepts_input who input ≡ false → out ≡ output_of (Refused Refusal.NoSuch) None
       → StepsFreely config who own m input held held role out
   unfolding steps_refused answered
   freely_refused held role out s refused is = record { same = refl; shows = (steps_refused held role out s refused is).shows }
 
+  -- so is an input at a node that is down
   pub freely_down : (held : Held) (out : Output) → Stands config who own held None m → accepts_input who input ≡ true
       → out ≡ output_of (down_answer input) None → StepsFreely config who own m input held held None out
   unfolding steps_down answered
@@ -384,6 +386,7 @@ module _ (config : Config) (who : NodeId) (own : List Row) (m : NodeState) (inpu
       else effect_outcome m whole_effect (none i) m.tear NoFault in
       record { same = kept.same; shows = subst (Shows config who own m.facts new (Some now) out) (sym same) c.shows }
 
+  -- what a role carries out without a fact is a step without an append
   pub freely_settled : (old new : Held) (was role : Option Role) (before now : Role) (up : Bool) (out : Output)
       → was ≡ Some before → accepts_input who input ≡ true → role ≡ role_settled (Some now) up
       → (RoleStands config who before m.facts m.memory

@@ -18,6 +18,7 @@ use Rattle.node_core.specs.declared.storing.Stopped.TheVariants as stops
 use Rattle.node_core.specs.Roles.{IsDecided, IsLeft}
 use Rattle.node_core.specs.Storing.{HasStored, RanOut, WasStopped, output_of, stopped_output, change_made}
 
+-- an append that stopped ran out of memory, or a fault befell it
 pub was_stopped : (config : Config) (who : NodeId) (facts : List Fact) (memory : Memory) (e : Effect Memory) (role : Role)
     (decision : Decision) (fact : Fact) (old new : Held) (stopped : Stopped) (now : Option Change) (out : Output)
     → IsDecided config who facts memory role decision e → decision.fact ≡ Some fact → IsFact fact

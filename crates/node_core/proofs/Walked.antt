@@ -140,6 +140,7 @@ module _ (config : Config) (who : NodeId) (sizes : Sizes) (own : List Row) (are 
         subst (λ old. StepsFreely config who own reaches.to.state input old new after out) (sym reaches.held_is)
         (freely_of config who sizes own reaches.to.state input held new role after out are h stands_there is none)
 
+    -- one input more, while the tear is still to come
     pub reaches_more : (input : Input) (new : Held) (after : Option Role) (out : Output) → is_some held.armed ≡ true
         → is_some new.armed ≡ true → Handles who sizes input held new role after out
         → Reaches config who own from (inputs ++ input ∷ []) (outs ++ out ∷ []) after new
@@ -159,12 +160,14 @@ module _ (config : Config) (who : NodeId) (sizes : Sizes) (own : List Row) (are 
           same = stores_nothing reaches.to.state input held new role after out armed still h stands_there ∙ reaches.same;
         }
 
+    -- where the tear comes, one append failed
     pub stopped_once : (input : Input) (new : Held) (after : Option Role) (out : Output) → is_some held.armed ≡ true
         → is_some new.armed ≡ false → Handles who sizes input held new role after out → AppendsOnce from.held new (Err Fault)
     stopped_once input new after out armed untorn h =
         subst (λ old. (text : List ℕ) × (0 < length text) × IsStopped text old new) reaches.same
         (stops_once reaches.to.state input held new role after out armed untorn h stands_there)
 
+    -- and the inputs behind it are not handled
     pub stops_there : (input : Input) (behind : List Input) (new : Held) (after : Option Role) (out : Output)
         → is_some held.armed ≡ true → is_some new.armed ≡ false → Handles who sizes input held new role after out
         → StopsIn config who own from (inputs ++ input ∷ behind) new RecordFault
