@@ -54,6 +54,7 @@ absent t (u ∷ keys) key ascending less =
     ap (λ b. b || has_key key (u ∷ keys)) (apart_from key t.key less)
     ∙ absent u keys key ascending.1 (nat_list_cmp_total.trans key t.key u.key less ascending.0)
 
+-- the rest of touched keys that ascend does too
 pub tail_ascends : (t : Touched) (keys : List Touched) → AreAscending (t ∷ keys) → AreAscending keys
 tail_ascends t [] ascending = tt
 tail_ascends t (u ∷ keys) ascending = ascending.1
@@ -70,6 +71,7 @@ swap true false c = refl
 swap false true c = refl
 swap false false c = refl
 
+-- which keys are touched afterwards
 pub has_touched : (keys : List Touched) (key other : List ℕ) (act : Act)
     → has_key other (with_touched keys key act) ≡ (bytes_eq key other || has_key other keys)
 has_touched [] key other act = refl
@@ -91,6 +93,7 @@ pub suc_in : (b : Bool) (n : ℕ) → suc (cond b n (n + 1)) ≡ cond b (suc n) 
 suc_in true n = refl
 suc_in false n = omega arith
 
+-- how many they are
 pub counts_touched : (keys : List Touched) (key : List ℕ) (act : Act) → AreAscending keys
     → length (with_touched keys key act) ≡ cond (has_key key keys) (length keys) (length keys + 1)
 counts_touched [] key act ascending = refl
@@ -135,6 +138,7 @@ further_on true true act old rest one = absurd (cc (one refl))
 further_on true false act old rest one = refl
 further_on false c act old rest one = refl
 
+-- and what was done last to each
 pub acts_touched : (keys : List Touched) (key other : List ℕ) (act : Act) → AreAscending keys
     → act_on (with_touched keys key act) other ≡ cond (bytes_eq key other) (last_act (act_on keys other) act) (act_on keys other)
 acts_touched [] key other act ascending = in_front (bytes_eq key other) act Act.Read (λ e. refl)

@@ -56,5 +56,6 @@ module _ (p : TxParts → Bool) where
         (sym (seen_failing seen (about x) fails))
         ∙ from (seen_with seen (about x)) xs)
 
+    -- the transactions of things that pass are those that pass
     pub first_passing : (xs : List X) → first_seen about (filter (λ x. p (about x)) xs) ≡ filter p (first_seen about xs)
     first_passing xs = from [] xs

@@ -11,6 +11,7 @@ use Rattle.transactions.specs.Cuts.{cuts, AreEnds}
 
 -- ---- the last of a list
 
+-- a list with one more at the end, without it
 pub without_last : {X : Type 0} (xs : List X) (x : X) → take (length (xs ++ x ∷ []) - 1) (xs ++ x ∷ []) ≡ xs
 without_last xs x =
     let e : length (xs ++ x ∷ []) ≡ length xs + 1 = length-append xs (x ∷ []) in
@@ -40,16 +41,19 @@ ends_before start (end ∷ ends) last count are =
 
 -- ---- the bytes of a number
 
+-- there are as many cuts as ends
 pub cuts_count : (bytes : List ℕ) (start : ℕ) (ends : List ℕ) → length (cuts bytes start ends) ≡ length ends
 cuts_count bytes start [] = refl
 cuts_count bytes start (end ∷ ends) = ap suc (cuts_count bytes end ends)
 
+-- a cut begins where the one before it ends
 pub cut_at : (bytes : List ℕ) (start : ℕ) (ends : List ℕ) (n end : ℕ) → slice_get ends n ≡ Some end
     → slice_get (cuts bytes start ends) n ≡ Some (slice_range bytes (get_or (start ∷ ends) n 0) end)
 cut_at bytes start [] n end e = absurd (cc)
 cut_at bytes start (first ∷ ends) zero end e = ap (λ (o : Option ℕ). option_map (λ to. slice_range bytes start to) o) e
 cut_at bytes start (first ∷ ends) (suc n) end e = cut_at bytes first ends n end e
 
+-- past the last end there is none
 pub no_cut_at : (bytes : List ℕ) (start : ℕ) (ends : List ℕ) (n : ℕ) → length ends ≤ n → slice_get (cuts bytes start ends) n ≡ None
 no_cut_at bytes start [] n le = refl
 no_cut_at bytes start (first ∷ ends) zero le = absurd (omega (arith, le))
@@ -58,6 +62,7 @@ no_cut_at bytes start (first ∷ ends) (suc n) le = no_cut_at bytes first ends n
 one_number : (a b : ℕ) → Some a ≡ Some b → a ≡ b
 one_number a b e = cc
 
+-- each cut is within the bytes
 pub cut_within : (start : ℕ) (ends : List ℕ) (count n end : ℕ) → AreEnds start ends count → slice_get ends n ≡ Some end
     → (get_or (start ∷ ends) n 0 ≤ end) × (end ≤ count)
 cut_within start [] count n end are e = absurd (cc)
@@ -101,6 +106,7 @@ module _ (bytes more bytes_now ends ends_now : List ℕ) (last : ℕ) (are : Are
   put_now : ends_now ≡ ends ++ length (bytes ++ more) ∷ []
   put_now = now ∙ ap (λ (n : ℕ). ends ++ n ∷ []) (at_end ∙ ap length all)
 
+  -- with one cut more, the ends are still ends
   pub ends_pushed : AreEnds 0 ends_now (length bytes_now)
   ends_pushed =
       let longer : length bytes ≤ length (bytes ++ more) = omega (arith, length-append bytes more) in
@@ -108,6 +114,7 @@ module _ (bytes more bytes_now ends ends_now : List ℕ) (last : ℕ) (are : Are
       (subst (AreEnds 0 (ends ++ length (bytes ++ more) ∷ [])) (sym (ap length all))
       (ends_grown 0 ends (length bytes) (length (bytes ++ more)) longer are))
 
+  -- and the cuts are one more
   pub cuts_pushed : cuts bytes_now 0 ends_now ≡ cuts bytes 0 ends ++ more ∷ []
   cuts_pushed = (λ k. cuts (all k) 0 (put_now k)) ∙ cuts_grown bytes more 0 ends are
 
@@ -144,6 +151,7 @@ module _ (bytes ends_now : List ℕ) (last : ℕ) (are : AreEnds 0 (ends_now ++ 
       ∙ (λ k. take (length (sym cuts_split k) - 1) (sym cuts_split k))
 
 module _ (bytes ends : List ℕ) (are : AreEnds 0 ends (length bytes)) (len_old len : ℕ) where
+  -- without the last one, the cuts are one less
   pub cuts_popped : (ends_now : List ℕ) (popped : Option ℕ) → ends ≡ ends_now ++ option_to_list popped → length ends_now ≡ len
       → MatchOption popped ((len_old ≡ 0) × (len ≡ 0)) (λ _. len + 1 ≡ len_old)
       → cuts (take (last_start ends_now) bytes) 0 ends_now ≡ take (length (cuts bytes 0 ends) - 1) (cuts bytes 0 ends)
@@ -153,6 +161,7 @@ module _ (bytes ends : List ℕ) (are : AreEnds 0 ends (length bytes)) (len_old 
       cuts_less bytes ends_now last (subst (λ es. AreEnds 0 es (length bytes)) split are)
       ∙ (λ k. take (length (cuts bytes 0 (sym split k)) - 1) (cuts bytes 0 (sym split k)))
 
+  -- and the ends are still ends
   pub ends_popped : (ends_now : List ℕ) (popped : Option ℕ) → ends ≡ ends_now ++ option_to_list popped → length ends_now ≡ len
       → MatchOption popped ((len_old ≡ 0) × (len ≡ 0)) (λ _. len + 1 ≡ len_old)
       → AreEnds 0 ends_now (length (take (last_start ends_now) bytes))

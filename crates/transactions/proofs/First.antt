@@ -70,10 +70,12 @@ module _ {X : Type 0} (about : X → TxParts) where
   abbrev pub seen_after : List TxParts → X → List TxParts
   seen_after seen x = seen_with seen (about x)
 
+  -- the transactions of things behind others
   pub fold_both : (seen : List TxParts) (xs ys : List X) → fold seen_after seen (xs ++ ys) ≡ fold seen_after (fold seen_after seen xs) ys
   fold_both seen [] ys = refl
   fold_both seen (x ∷ xs) ys = fold_both (seen_after seen x) xs ys
 
+  -- of one thing more
   pub first_more : (xs : List X) (x : X) → first_seen about (xs ++ x ∷ []) ≡ seen_with (first_seen about xs) (about x)
   first_more xs x = fold_both [] xs (x ∷ [])
 
@@ -83,6 +85,7 @@ module _ {X : Type 0} (about : X → TxParts) where
   first_both xs ys more same =
       fold_both [] xs more ∙ ap (λ seen. fold seen_after seen more) same ∙ sym (fold_both [] ys more)
 
+  -- each is there once
   pub first_once : (xs : List X) → IsDistinct tx_eq (first_seen about xs)
   unfolding IsDistinct
   first_once xs = from [] xs none
@@ -153,6 +156,7 @@ module _ {X : Type 0} (about : X → TxParts) where
         grouped true b c = refl
         grouped false b c = refl
 
+    -- all transactions pass where each thing is about one that does
     pub first_all : (xs : List X) → list_all q (first_seen about xs) ≡ list_all (λ x. q (about x)) xs
     first_all xs = all_from [] xs
 

@@ -23,10 +23,12 @@ same k = (bytes_decides k k).1 refl
 
 -- ---- one entry more
 
+-- what is found of other keys is found still
 pub or_old : (o : Option ℕ) (place : ℕ) → or_new o false place ≡ o
 or_old (Some known) place = refl
 or_old None place = refl
 
+-- a look-up among one key more
 pub lookup_pushed : {K : Type 0} (test : K → Bool) (es : List (K × ℕ)) (key : K) (place : ℕ)
     → lookup test (es ++ (key, place) ∷ []) ≡ or_new (lookup test es) (test key) place
 lookup_pushed test [] key place = refl
@@ -42,6 +44,7 @@ pub key_got : {K : Type 0} (keys : List K) (n : ℕ) (key : K) → true ≡ ltb 
     → Some key ≡ slice_get keys n
 key_got keys n key t e = sym (slice_get_read keys (length keys) n key refl (ltb-true _ _ (sym t)) e)
 
+-- the key at a place, of keys that are lent
 pub key_lent : {K : Type 0} (lent keys : List K) (n : ℕ) (key : K) → lent ≡ keys → true ≡ ltb n (length lent) → key ≡ get_or lent n key
     → slice_get keys n ≡ Some key
 key_lent lent keys n key same t e = sym (key_got lent n key t e ∙ ap (λ (ks : List _). slice_get ks n) same)
@@ -163,6 +166,7 @@ module _ {K : Type 0} (bytes : K → List ℕ) where
         by None (inr at) = absurd at
         by (Some n) (inr at) = sym (own_place k n at)
 
+    -- no two keys have the same bytes
     pub found_apart : IsDistinct (λ a b. bytes_eq (bytes a) (bytes b)) keys
     found_apart = apart keys (λ k n m a b. one_place n m (sym (own_place k n a) ∙ own_place k m b))
 
@@ -293,6 +297,7 @@ module _ {K : Type 0} (bytes : K → List ℕ) where
 
   -- ---- one more in hashed places
 
+  -- an index of one key more, where it was placed
   pub index_placed : (words : WordKey) (old new : HashedPlaces) (keys : List K) (hash place : ℕ) (k : List ℕ) (key : K)
       → IsIndex bytes words keys (hint_of old) (other_of old) → found bytes keys k (hint_of old hash) (other_of old k) ≡ None
       → IsPlaced old new hash k place → hash ≡ hash_of words k → k ≡ bytes key → place ≡ length keys

@@ -49,6 +49,7 @@ module _ {X : Type 0} (p : X → Bool) (xs : List X) where
       let le : length xs ≤ position_or_len p xs = ltb-false (position_or_len p xs) (length xs) t in
       omega (arith, le, prefix_len-le-length (λ x. not (p x)) xs)
 
+  -- what a search answers is a place that was told
   pub place_of_position : (r : Option ℕ) → r ≡ position p xs → IsTold r
   place_of_position r e = subst IsTold (sym e) (told_by (ltb (position_or_len p xs) (length xs)) refl)
 
@@ -91,9 +92,11 @@ spelled_once tx other is are =
 -- ---- along the keys, of which `bytes` gives the bytes
 
 module _ {K : Type 0} (bytes : K → List ℕ) where
+  -- the transactions that are seen of spelled bytes
   abbrev pub seen_of : List K → List TxParts
   seen_of keys = map (λ key. tx_spelled (bytes key)) keys
 
+  -- each of them is one
   pub all_valid : (keys : List K) → All (λ key. IsSpelled (bytes key)) keys → All IsTx (seen_of keys)
   all_valid keys each = All-map IsTx (λ key. tx_spelled (bytes key)) keys (λ k d lt. (each k d lt).valid)
 
@@ -104,6 +107,7 @@ module _ {K : Type 0} (bytes : K → List ℕ) where
       recursion_from_All (λ key. bytes_eq spelled (bytes key) ≡ bytes_eq spelled (tx_spelling version_2 (tx_spelled (bytes key)))) keys
       (λ k d lt. ap (bytes_eq spelled) (each k d lt).spelled)
 
+  -- bytes are found where the transactions that they spell would be
   pub place_by_bytes : (spelled : List ℕ) (keys : List K) → All (λ key. IsSpelled (bytes key)) keys
       → position (λ key. bytes_eq spelled (bytes key)) keys ≡ position (λ tx. bytes_eq spelled (tx_spelling version_2 tx)) (seen_of keys)
   place_by_bytes spelled keys each =
@@ -122,6 +126,7 @@ place_by_tx tx seen is each =
     (recursion_from_All (λ other. bytes_eq (tx_spelling version_2 tx) (tx_spelling version_2 other) ≡ tx_eq tx other) seen
     (λ k d lt. spelled_once tx (get_or seen k d) is (each k d lt)))
 
+-- so a transaction is found by its bytes
 pub position_by_tx : (spelled : List ℕ) (tx : TxParts) (seen : List TxParts) → IsTx tx → spelled ≡ tx_spelling version_2 tx → All IsTx seen
     → position (λ other. bytes_eq spelled (tx_spelling version_2 other)) seen ≡ position (tx_eq tx) seen
 position_by_tx spelled tx seen is e each =
@@ -131,28 +136,33 @@ position_by_tx spelled tx seen is e each =
 -- ---- one more transaction
 
 module _ (seen : List TxParts) (tx : TxParts) where
+  -- a transaction that is found was seen, at its place
   pub seen_before : (n : ℕ) → Some n ≡ position (tx_eq tx) seen → (n ≡ place_in seen tx) × (seen ≡ seen_with seen tx)
   seen_before n e =
       let told = place_of_position (tx_eq tx) seen (Some n) e in
       let any = present_from_place (tx_eq tx) seen (omega (arith, told)) in
       (told.0, sym (ap (λ (b : Bool). cond b seen (seen ++ tx ∷ [])) any))
 
+  -- and what stands at its place was seen
   pub seen_already : (n : ℕ) → (n ≡ place_in seen tx) × (n < length seen) → seen ≡ seen_with seen tx
   seen_already n told =
       let any = present_from_place (tx_eq tx) seen (omega (arith, told)) in
       sym (ap (λ (b : Bool). cond b seen (seen ++ tx ∷ [])) any)
 
+  -- one that isn't found was not seen
   pub not_seen : None ≡ position (tx_eq tx) seen → list_any (tx_eq tx) seen ≡ false
   not_seen e = absent_from_place (tx_eq tx) seen (place_of_position (tx_eq tx) seen None e)
 
 module _ {K : Type 0} (bytes : K → List ℕ) (keys : List K) (key : K) (tx : TxParts) (is : IsTx tx)
     (spelled : bytes key ≡ tx_spelling version_2 tx) where
+  -- one key more is one transaction more
   pub seen_pushed : list_any (tx_eq tx) (seen_of bytes keys) ≡ false → seen_of bytes (keys ++ key ∷ []) ≡ seen_with (seen_of bytes keys) tx
   seen_pushed absent =
       map-append (λ other. tx_spelled (bytes other)) keys (key ∷ [])
       ∙ ap (λ (last : TxParts). seen_of bytes keys ++ last ∷ []) (spelled_is (bytes key) tx is spelled)
       ∙ sym (ap (λ (b : Bool). cond b (seen_of bytes keys) (seen_of bytes keys ++ tx ∷ [])) absent)
 
+  -- and all keys are spelled
   pub spelled_pushed : All (λ other. IsSpelled (bytes other)) keys → All (λ other. IsSpelled (bytes other)) (keys ++ key ∷ [])
   spelled_pushed each =
       let back = spelled_is (bytes key) tx is spelled in
@@ -180,6 +190,7 @@ module _ {K : Type 0} (bytes : K → List ℕ) where
   distinct [] each apart = tt
   distinct (a ∷ keys) each apart = (all_apart a keys each.0 each.1 apart.0, distinct keys each.1 apart.1)
 
+  -- keys that are apart spell transactions that are
   pub seen_distinct : (keys : List K) → All (λ key. IsSpelled (bytes key)) keys
       → IsDistinct (λ a b. bytes_eq (bytes a) (bytes b)) keys → IsDistinct tx_eq (seen_of bytes keys)
   seen_distinct keys each apart = distinct keys (recursion_from_All (λ key. IsSpelled (bytes key)) keys each) apart
@@ -216,6 +227,7 @@ module _ {K : Type 0} (bytes : K → List ℕ) where
       ∙ sym (append-nil (tx_spelling version_2 (tx_spelled (bytes key))))) in
       ap Some same.0 ∙ sym (get_of keys n ∙ ap (option_map (λ key. tx_spelled (bytes key))) at)
 
+  -- bytes that are a key's spell a transaction
   pub taken_at : (spelled : List ℕ) (key : K) (keys : List K) (n : ℕ) → All (λ key. IsSpelled (bytes key)) keys → slice_get keys n
       ≡ Some key
       → spelled ≡ bytes key
@@ -299,12 +311,14 @@ front_is : (bytes : List ℕ) (tx : TxParts) (rest : List ℕ) → IsTx tx → b
     → tx_in version_2 bytes ≡ Some (tx, rest)
 front_is bytes tx rest is e = ap (tx_in version_2) e ∙ in_again Second tx rest (in_version_2 is)
 
+-- a transaction that is taken is the one that was spelled
 pub taken_is : (bytes : List ℕ) (tx : TxParts) (after : List ℕ) → Some (tx, after) ≡ tx_in version_2 bytes
     → (other : TxParts) (rest : List ℕ) → IsTx other → bytes ≡ tx_spelling version_2 other ++ rest → (tx ≡ other) × (after ≡ rest)
 taken_is bytes tx after got other rest is e =
     let same = some_same (tx, after) (other, rest) (got ∙ front_is bytes other rest is e) in
     (ap (λ (p : TxParts × List ℕ). p.0) same, ap (λ (p : TxParts × List ℕ). p.1) same)
 
+-- where none is taken, none was spelled
 pub none_is : (bytes : List ℕ) → None ≡ tx_in version_2 bytes
     → (other : TxParts) (rest : List ℕ) → IsTx other → ¬ (bytes ≡ tx_spelling version_2 other ++ rest)
 none_is bytes got other rest is e = let same = got ∙ front_is bytes other rest is e in absurd (cc (same))

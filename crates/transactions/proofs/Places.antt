@@ -13,6 +13,7 @@ use Rattle.xid.proofs.Deciding.{tx_decides}
 use Rattle.transactions.specs.Seen.{place_in, seen_with, numbered_with, no_transaction, at_places, AreInside}
 use Rattle.transactions.proofs.Rows.{front, number_at}
 
+-- places within few transactions are within more
 pub still_inside : (places : List ℕ) (n m : ℕ) → n ≤ m → AreInside n places → AreInside m places
 still_inside [] n m more each = tt
 still_inside (place ∷ places) n m more each = (omega (arith, more, each.0), still_inside places n m more each.1)
@@ -24,6 +25,7 @@ at_places_grown ts tx [] each = refl
 at_places_grown ts tx (place ∷ places) each =
     λ k. front ts tx no_transaction place each.0 k ∷ at_places_grown ts tx places each.1 k
 
+-- one transaction more changes nothing at places
 pub at_places_seen : (ts : List TxParts) (tx : TxParts) (places : List ℕ) → AreInside (length ts) places
     → at_places (seen_with ts tx) places ≡ at_places ts places
 at_places_seen ts tx places each = by (list_any (tx_eq tx) ts)
@@ -76,6 +78,7 @@ module _ (ts : List TxParts) (once : IsDistinct tx_eq ts) where
     all_apart a places less each.1 apart.1,
   )
 
+  -- places that are apart are transactions that are
   pub begun_once : (places : List ℕ) → AreInside (length ts) places → IsDistinct nat_eq places → IsDistinct tx_eq (at_places ts places)
   unfolding IsDistinct
   begun_once [] each apart = tt
@@ -87,6 +90,7 @@ inside_more n place places true each less = each
 inside_more n place [] false each less = (less, tt)
 inside_more n place (first ∷ places) false each less = (each.0, inside_more n place places false each.1 less)
 
+-- one place more
 pub inside_with : (n place : ℕ) (places : List ℕ) → AreInside n places → place < n → AreInside n (numbered_with places place)
 inside_with n place places each less = inside_more n place places (list_any (λ m. place == m) places) each less
 
@@ -104,6 +108,7 @@ at_places_valid ts (place ∷ places) each valid = (one ts place each.0 valid, a
 -- one more is listed, or isn't for want of memory
 module _ (ts : List TxParts) (tx : TxParts) (number : ℕ) (old new : List ℕ) (is : number ≡ place_in ts tx)
     (seen : place_in ts tx < length ts) (inside : AreInside (length ts) old) (r : Result (Unit {0}) Refusal) where
+  -- a place that was added, or was not
   pub begun_inside : OnOk r (new ≡ numbered_with old number) → OnErr r (new ≡ old) → AreInside (length ts) new
   begun_inside added kept = by r added kept
     where
@@ -112,6 +117,7 @@ module _ (ts : List TxParts) (tx : TxParts) (number : ℕ) (old new : List ℕ) 
           subst (AreInside (length ts)) (sym added) (inside_with (length ts) number old inside (omega (arith, is, seen)))
       by (Err e) added kept = subst (AreInside (length ts)) (sym kept) inside
 
+  -- and the transaction that stands there
   pub begun_added : IsDistinct tx_eq ts → OnOk r (new ≡ numbered_with old number)
       → OnOk r (at_places ts new ≡ seen_with (at_places ts old) tx)
   begun_added once added = by r added

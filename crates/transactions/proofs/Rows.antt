@@ -12,6 +12,7 @@ use Rattle.xid.specs.Transactions.{TxParts, tx_eq}
 use Rattle.xid.proofs.Deciding.{tx_self, tx_decides}
 use Rattle.transactions.specs.Seen.{place_in}
 
+-- in front of the end, rows are as they were
 pub front : {X : Type 0} (xs : List X) (x d : X) (k : ℕ) → k < length xs → get_or (xs ++ x ∷ []) k d ≡ get_or xs k d
 front [] x d k lt = absurd (omega arith)
 front (y ∷ xs) x d zero lt = refl
@@ -20,6 +21,7 @@ front (y ∷ xs) x d (suc k) lt = front xs x d k (omega arith)
 nobody : TxParts
 nobody = record { format = 0; gtrid = []; branches = [] }
 
+-- a place is within the transactions, or their end
 pub place_le : (ts : List TxParts) (tx : TxParts) → place_in ts tx ≤ length ts
 place_le ts tx = prefix_len-le-length (λ other. not (tx_eq tx other)) ts
 
@@ -42,11 +44,13 @@ number_at ts n d once lt =
 -- ---- one more transaction
 
 module _ (ts : List TxParts) (tx : TxParts) (absent : place_in ts tx ≡ length ts) where
+  -- a transaction that was seen keeps its place
   pub place_stays : (other : TxParts) → place_in ts other < length ts → place_in (ts ++ tx ∷ []) other ≡ place_in ts other
   place_stays other lt =
       position_or_len_push (tx_eq other) ts tx
       ∙ ap (λ t. cond t (length ts + cond (tx_eq other tx) 0 1) (place_in ts other)) (ne_eqb _ _ (λ e. absurd (omega (arith, lt, e))))
 
+  -- one that was not is at the end, or behind the new one
   pub place_ends : (other : TxParts) → place_in ts other ≡ length ts
       → place_in (ts ++ tx ∷ []) other ≡ length ts + cond (tx_eq other tx) 0 1
   place_ends other e =
@@ -60,9 +64,11 @@ module _ (ts : List TxParts) (tx : TxParts) (absent : place_in ts tx ≡ length 
       let zero_more : ◌≡◌ {A = ℕ} (cond (tx_eq tx tx) 0 1) 0 = ap (λ t. cond t 0 1) (tx_self tx) in
       omega (arith, absent, e, zero_more)
 
+  -- the transactions are one more
   pub longer : length (ts ++ tx ∷ []) ≡ length ts + 1
   longer = length-append ts (tx ∷ [])
 
+  -- the new one is seen
   pub is_seen : place_in (ts ++ tx ∷ []) tx < length (ts ++ tx ∷ [])
   is_seen = omega (arith, absent, number_same, longer)
 

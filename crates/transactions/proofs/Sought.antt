@@ -12,6 +12,7 @@ use Rattle.hashing.specs.declared.keys.WordKey.{WordKey}
 use Rattle.transactions.proofs.Index.{found_first, settled}
 use Rattle.transactions.proofs.Keys.{seen_of, all_valid, place_by_bytes, position_by_tx}
 
+-- what an index finds of a transaction's bytes is its place
 pub sought : {K : Type 0} (bytes : K → List ℕ) (words : WordKey) (keys : List K) (hint : ℕ → Option ℕ)
     (other : List ℕ → Option ℕ) → IsIndex bytes words keys hint other → All (λ key. IsSpelled (bytes key)) keys →
     (k : List ℕ) (tx : TxParts) → IsTx tx

@@ -15,6 +15,7 @@ pub before : (n m : ℕ) (rest : List ℕ) → n < m → IsStrictlyIncreasing (m
 before n m rest lt up zero within = lt
 before n m rest lt up (suc k) within = rw (next k) (up k (omega arith))
 
+-- the rest of numbers that ascend does too
 pub tail_up : (n : ℕ) (ns : List ℕ) → IsStrictlyIncreasing (n ∷ ns) → IsStrictlyIncreasing ns
 tail_up n [] up = λ k lt. absurd (omega arith)
 tail_up n (m ∷ ms) up = later n m ms up
@@ -24,14 +25,17 @@ abbrev pub IsFrom : ℕ → List ℕ → Type 0
 IsFrom least [] = Unit {0}
 IsFrom least (n ∷ ns) = least ≤ n
 
+-- all numbers are 0 or more
 pub from_zero : (ns : List ℕ) → IsFrom 0 ns
 from_zero [] = tt
 from_zero (n ∷ ns) = omega arith
 
+-- numbers that ascend from the next one ascend behind it
 pub ascend_with : (n : ℕ) (ns : List ℕ) → IsFrom (n + 1) ns → IsStrictlyIncreasing ns → IsStrictlyIncreasing (n ∷ ns)
 ascend_with n [] from up = λ k lt. absurd (omega arith)
 ascend_with n (m ∷ ms) from up = before n m ms (omega (arith, from)) up
 
+-- what stands behind a number ascends from the next one
 pub from_next : (n : ℕ) (ns : List ℕ) → IsStrictlyIncreasing (n ∷ ns) → IsFrom (n + 1) ns
 from_next n [] up = tt
 from_next n (m ∷ ms) up = let lt : n < m = up 0 (omega arith) in omega arith

@@ -111,6 +111,7 @@ module _ (tx : TxParts) (bytes rest reports : List ℕ) (ballot acceptor : ℕ) 
   unfolding b1b_at
   b1b_none e = rw (sym eb, sym ea, e) refl
 
+  -- a bundle of phase 1b whose items were passed over is decoded
   pub b1b_accepted : IsTx tx → IsLeaderBallot ballot → acceptor < most_acceptors
       → are_items report_item_at (is_reported tx ballot) (λ item. item.instance) reports ≡ true
       → Ok (b1b_kind (reports_spelled reports)) ≡ decoded (b1b_at tx bytes)
@@ -124,6 +125,7 @@ module _ (tx : TxParts) (bytes rest reports : List ℕ) (ballot acceptor : ℕ) 
             (λ item h. (report_decides ballot item.report).0 h) xs lows,
       ))
 
+  -- and is refused where they were not
   pub b1b_refused : are_items report_item_at (is_reported tx ballot) (λ item. item.instance) reports ≡ false
       → Err BadMessage ≡ decoded (b1b_at tx bytes)
   b1b_refused =
@@ -198,6 +200,7 @@ module _ (tx : TxParts) (bytes accepts : List ℕ) (acceptor : ℕ) (ea : Some (
   unfolding b2b_at
   b2b_none e = rw (sym ea, e) refl
 
+  -- so it is for a bundle of phase 2b
   pub b2b_accepted : IsBytes bytes → IsTx tx → acceptor < most_acceptors
       → are_items accept_item_at (is_accepted tx) (λ item. item.instance) accepts ≡ true
       → Ok (b2b_kind (accepts_spelled accepts)) ≡ decoded (b2b_at tx bytes)
@@ -206,6 +209,7 @@ module _ (tx : TxParts) (bytes accepts : List ℕ) (acceptor : ℕ) (ea : Some (
       bundle_accepted accept_item_at (λ item. item.instance) (λ item. true) tx b2b_kind accepts (accepts_spelled accepts) (b2b_at tx bytes)
       accepts_read b2b_read b2b_none valid (λ xs read instances lows. (instances, fits, all_ballots accepts xs front.after read))
 
+  -- and where its items were not passed over
   pub b2b_refused : are_items accept_item_at (is_accepted tx) (λ item. item.instance) accepts ≡ false
       → Err BadMessage ≡ decoded (b2b_at tx bytes)
   b2b_refused =

@@ -21,10 +21,12 @@ module _ {X : Type 0} (f : X → ℕ) where
   up [] each = λ k lt. absurd (omega arith)
   up (x ∷ xs) each = ascend f (x ∷ xs) each x
 
+  -- the instance of each item is a participant of the transaction
   pub named_at : {tx : TxParts} (xs : List X) → AreInstances tx (map f xs) → (i : ℕ) (d : X) → i < length xs
       → is_participant tx (f (get_or xs i d)) ≡ true
   named_at {tx} xs are i d lt = at (λ n. IsTrue (is_participant tx n)) xs are.named i d lt
 
+  -- items that were read one after the other, each a participant's and above the one before, are instances
   pub instances_are : {tx : TxParts} (xs : List X) → IsTx tx → 1 ≤ length xs
       → ((k : ℕ) (d : X) → k < length xs → IsTrue (is_participant tx (f (get_or xs k d))))
       → ((k : ℕ) (d : X) → k + 1 < length xs → f (get_or xs k d) < f (get_or xs (k + 1) d)) → AreInstances tx (map f xs)

@@ -34,12 +34,15 @@ module _ {X : Type 0} (one : List ℕ → Option (X × List ℕ)) (is : X → Bo
   step_none least n bytes e = rw e refl
 
   module _ (least n : ℕ) (bytes : List ℕ) where
+    -- where nothing can be taken, the items that are left are none
     pub next_none : None ≡ one bytes → left least (suc n) bytes ≡ false
     next_none e = step_none least n bytes (sym e)
 
+    -- so it is where what was taken fails the test
     pub next_fails : (x : X) (after : List ℕ) → Some (x, after) ≡ one bytes → is x ≡ false → left least (suc n) bytes ≡ false
     next_fails x after e fails = step_to least n bytes x after (sym e) ∙ rw fails refl
 
+    -- and where its instance is too low
     pub next_low : (x : X) (after : List ℕ) → Some (x, after) ≡ one bytes → instance x < least → left least (suc n) bytes ≡ false
     next_low x after e low =
         let below : leb least (instance x) ≡ false = grind (arith, nat_tests, low) in
@@ -49,12 +52,14 @@ module _ {X : Type 0} (one : List ℕ → Option (X × List ℕ)) (is : X → Bo
         both_false true = refl
         both_false false = refl
 
+    -- an item that passes leads on to those behind it
     pub next_goes : (x : X) (after : List ℕ) → Some (x, after) ≡ one bytes → is x ≡ true → least ≤ instance x
         → left least (suc n) bytes ≡ left (instance x + 1) n after
     next_goes x after e holds le =
         let low : leb least (instance x) ≡ true = le-leb _ _ le in
         step_to least n bytes x after (sym e) ∙ rw (holds, low) refl
 
+  -- where all items were passed over, the bytes end
   pub at_end : (least count i : ℕ) (bytes : List ℕ) → count ≤ i → left least (count - i) bytes ≡ is_end bytes
   unfolding items_from
   at_end least count i bytes le = let k : count - i ≡ 0 = omega arith in rw k refl
@@ -144,6 +149,7 @@ module _ {X : Type 0} (one : List ℕ → Option (X × List ℕ)) (is : X → Bo
   counted zero some few = absurd (cc (some))
   counted (suc n) some few = (omega arith, ltb-false _ _ few)
 
+  -- what was passed over are items that pass the test and ascend
   pub are : (bytes : List ℕ) → are_items one is instance bytes ≡ true → Are bytes
   unfolding are_items items_at
   are [] e = absurd (cc (e))
@@ -165,6 +171,7 @@ module _ {X : Type 0} (one : List ℕ → Option (X × List ℕ)) (is : X → Bo
             ascending = all.ascending;
           }
 
+  -- items that pass the test and ascend are passed over
   pub are_again : (bytes : List ℕ) (xs : List X) → items_at one bytes ≡ Some (xs, []) → AllByRecursion (λ x. is x ≡ true) xs
       → IsStrictlyIncreasing (map instance xs) → are_items one is instance bytes ≡ true
   unfolding are_items items_at
@@ -174,6 +181,7 @@ module _ {X : Type 0} (one : List ℕ → Option (X × List ℕ)) (is : X → Bo
       let few = unless (ltb most_branches count.0) _ (xs, []) some.1 in
       rw (ec, some.0, few.0) (again count.0 0 count.1 (xs, []) few.1 (refl, each, from_zero (map instance xs), up)))
 
+-- bytes end where there are none
 pub end_is : (bytes : List ℕ) → (length bytes == 0) ≡ is_end bytes
 end_is [] = refl
 end_is (x ∷ xs) = eqb-suc-zero (length xs)

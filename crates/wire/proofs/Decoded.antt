@@ -14,9 +14,11 @@ use Rattle.wire.proofs.Spelled.{some_same}
 abbrev answer : Kind → Bool → Result Kind Refusal
 answer m t = cond t (Ok m) (Err BadMessage)
 
+-- a kind that passes the test of messages is answered
 pub accepted : (t : Bool) (m : Kind) → (IsTrue t ↔ IsMessage m) → t ≡ true → Ok m ≡ answered (Some m)
 accepted t m says is = let yes : is_message m ≡ true = (message_decides m).1 (says.0 is) in rw yes refl
 
+-- and one that doesn't is a bad message
 pub refused : (t : Bool) (m : Kind) → (IsTrue t ↔ IsMessage m) → t ≡ false → Err BadMessage ≡ answered (Some m)
 refused t m says not = by (is_message m) (λ is. absurd (false≢true (sym not ∙ says.1 ((message_decides m).0 is))))
   where

@@ -58,6 +58,7 @@ ascending_decides (n ∷ m ∷ rest) =
 branches_decide : (bs : List BranchParts) → Decides (list_all is_branch bs) (All IsBranch bs)
 branches_decide = Decides-by_and is_branch IsBranch (list_all is_branch) branch_decides refl (λ _ _. refl)
 
+-- the test of transactions decides whether one is a transaction
 pub tx_decides : (tx : TxParts) → Decides (is_tx tx) (IsTx tx)
 tx_decides tx =
     Decides-like _
@@ -79,6 +80,7 @@ leader_ballot_decides ballot =
     Decides-like _ (λ h. record { some = h.0; fits = h.1 }) (λ h. (h.some, h.fits))
     (Decides-and _ _ (leb_decides 1 ballot) (Decides-ltb ballot (2 ^ 32)))
 
+-- so it is for reports below a ballot
 pub report_decides : (ballot : ℕ) (report : Option (ℕ × Vote)) → Decides (is_report ballot report) (IsReportBelow ballot report)
 report_decides ballot None = (λ _. tt, λ _. refl)
 report_decides ballot (Some accepted) = Decides-ltb accepted.0 ballot
@@ -96,6 +98,7 @@ instances_decide tx ns =
     (all_decides (λ rm. is_participant tx rm) (λ rm. IsTrue (is_participant tx rm)) (λ rm. (λ h. h, λ h. h)) ns))
     (ascending_decides ns))
 
+-- and for messages
 pub message_decides : (k : Kind) → Decides (is_message k) (IsMessage k)
 message_decides (Prepare tx) = tx_decides tx
 message_decides (P1a tx rm ballot) = Decides-and _ _ (instance_decides tx rm) (leader_ballot_decides ballot)
@@ -138,6 +141,7 @@ steps : (bytes front rest : List ℕ) (version code : ℕ) (tx : TxParts) (k : K
     → message_at bytes ≡ cond (is_spelled bytes k) (Some k) None
 steps bytes front rest version code tx k e first last = rw (e, first, last) refl
 
+-- what was spelled is found
 pub found : (k : Kind) (bytes : List ℕ) → Spells k bytes → message_at bytes ≡ Some k
 found k bytes h =
     let first = tx_again version_2 _ (rest_spelling version_2 k) wide_2 (in_version_2 (tx_valid k h.message)) in
@@ -149,6 +153,7 @@ pub kept : {X : Type 0} (t : Bool) (x y : X) → cond t (Some x) None ≡ Some y
 kept true x y e = (refl, cc)
 kept false x y e = absurd (cc)
 
+-- what is found was spelled
 pub spelled : (k : Kind) (bytes : List ℕ) → message_at bytes ≡ Some k → Spells k bytes
 spelled k bytes e =
     step (byte_at bytes) _ e (λ version _ e. step (byte_at version.1) _ e (λ code _ e.

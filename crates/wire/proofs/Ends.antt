@@ -156,6 +156,7 @@ tx_read : (bytes rest : List ℕ) (format count : ℕ × List ℕ) (gtrid : List
 unfolding tx_at
 tx_read bytes rest format count gtrid bs ef eg ec few eb = rw (ef, eg, ec, few, eb) refl
 
+-- where a transaction is at the front, it ends in front of the rest
 pub ends : (bytes rest : List ℕ) → IsBytes bytes → after_tx bytes ≡ Some rest → Ends bytes rest
 unfolding after_tx
 ends bytes rest is e =
@@ -223,15 +224,18 @@ none bytes is e = by (tx_in version_2 bytes) refl
 -- ---- as the loop goes
 
 module _ (least count i : ℕ) (bytes : List ℕ) where
+  -- a branch that was passed over leads on to those behind it
   pub goes : (rm : ℕ) (after : List ℕ) → i < count → Some (rm, after) ≡ manager_at least bytes
       → after_branches least (count - i) bytes ≡ after_branches (rm + 1) (count - (i + 1)) after
   unfolding after_branches
   goes rm after lt e = let k : count - i ≡ suc (count - (i + 1)) = omega arith in rw (k, sym e) refl
 
+  -- where there is none, nothing is passed over
   pub stops : i < count → None ≡ manager_at least bytes → after_branches least (count - i) bytes ≡ None
   unfolding after_branches
   stops lt e = let k : count - i ≡ suc (count - (i + 1)) = omega arith in rw (k, sym e) refl
 
+  -- where all were passed over, the rest is what is left
   pub is_done : count ≤ i → after_branches least (count - i) bytes ≡ Some bytes
   unfolding after_branches
   is_done le = let k : count - i ≡ 0 = omega arith in rw k refl

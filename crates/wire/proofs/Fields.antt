@@ -26,6 +26,7 @@ use Rattle.wire.specs.Reading.{report_at, instance_at, report_item_at, accept_it
 use Rattle.wire.specs.Reading.{ask_at, b1a_at, b1b_at, b2b_at, kind_at}
 use Rattle.wire.proofs.Instances.{instance_below, instances_below, few_instances}
 
+-- version 2 has room for each number of a resource manager
 pub wide_2 : IsWide version_2
 wide_2 = omega arith
 
@@ -33,6 +34,7 @@ wide_2 = omega arith
 pub in_version_2 : {tx : TxParts} → IsTx tx → IsTxIn version_2 tx
 in_version_2 is = record { valid = is; few = is.branches.few; managers = λ k d lt. (is.branches.each k d lt).rm }
 
+-- a number of some bytes
 pub big_again : (width n : ℕ) (rest : List ℕ) → n < 256 ^ width → big_at width (big_bytes width n ++ rest) ≡ Some (n, rest)
 big_again width n rest lt =
     let len : length (big_bytes width n) ≡ width = length-bytes_high_first width n in
@@ -41,12 +43,14 @@ big_again width n rest lt =
     let back : big_number width (big_bytes width n ++ rest) ≡ n = big_number-reads_back width n rest lt in
     rw (long, back, drop_at (big_bytes width n) rest width len) refl
 
+-- a number
 pub number_again : (n : ℕ) (rest : List ℕ) → n < 2 ^ 32 → number_at (number_spelling n ++ rest) ≡ Some (n, rest)
 number_again n rest lt = big_again 4 n rest lt
 
 rm_again : (v : Version) (rm : ℕ) (rest : List ℕ) → IsWide v → rm < v.most_managers → rm_at v (rm_spelling v rm ++ rest) ≡ Some (rm, rest)
 rm_again v rm rest wide lt = big_again v.rm_width rm rest (omega (arith, wide, lt))
 
+-- a part of a name
 pub component_again : (xs rest : List ℕ) → length xs ≤ most_component → component_at (component_spelling xs ++ rest) ≡ Some (xs, rest)
 unfolding component_at
 component_again xs rest few =
@@ -54,6 +58,7 @@ component_again xs rest few =
     let long : ltb (length (xs ++ rest)) (length xs) ≡ false = le-ltb _ _ (omega (arith, length-append xs rest)) in
     rw (fits, long, take_at xs rest (length xs) refl, drop_at xs rest (length xs) refl) refl
 
+-- a branch
 pub branch_again : (v : Version) (b : BranchParts) (rest : List ℕ) → IsWide v → b.rm < v.most_managers → IsBranch b
     → branch_at v (branch_spelling v b ++ rest) ≡ Some (b, rest)
 unfolding branch_at
@@ -83,6 +88,7 @@ branches_again v bs rest wide below each =
     (λ b rest is. branch_again v b rest wide is.0 is.1) bs rest
     (recursion_from_All (λ b. (b.rm < v.most_managers) × IsBranch b) bs (λ k d lt. (below k d lt, each k d lt)))
 
+-- a transaction
 pub tx_again : (v : Version) (tx : TxParts) (rest : List ℕ) → IsWide v → IsTxIn v tx → tx_at v (tx_spelling v tx ++ rest) ≡ Some (tx, rest)
 unfolding tx_at
 tx_again v tx rest wide is =
@@ -101,6 +107,7 @@ pub tx_taken : (bytes : List ℕ) (tx : TxParts) (rest : List ℕ) → IsTx tx �
     → tx_at version_2 bytes ≡ Some (tx, rest)
 tx_taken bytes tx rest is e = ap (tx_at version_2) e ∙ tx_again version_2 tx rest wide_2 (in_version_2 is)
 
+-- a vote
 pub vote_again : (v : Vote) (rest : List ℕ) → vote_at (vote_byte v ∷ rest) ≡ Some (v, rest)
 unfolding vote_at
 vote_again Prepared rest = refl
@@ -220,6 +227,7 @@ b2b_again tx acceptor accepts rest are ballots =
     accept_item_again accepts rest (omega (arith, are.some)) (omega (arith, few_instances are)) each in
     rw items refl
 
+-- what follows a message's transaction
 pub kind_again : (k : Kind) (rest : List ℕ) → IsMessage k
     → kind_at (kind_byte k) (message_tx k) (rest_spelling version_2 k ++ rest) ≡ Some (k, rest)
 unfolding kind_at
@@ -236,6 +244,7 @@ kind_again (B1a tx ballot) rest is = b1a_again tx ballot rest is.1.fits
 kind_again (B1b tx ballot acceptor reports) rest is = b1b_again tx ballot acceptor reports rest is.1.fits is.0 is.3
 kind_again (B2b tx acceptor accepts) rest is = b2b_again tx acceptor accepts rest is.0 is.2
 
+-- so it is with nothing behind it
 pub kind_whole : (k : Kind) → IsMessage k → kind_at (kind_byte k) (message_tx k) (rest_spelling version_2 k) ≡ Some (k, [])
 kind_whole k is = ap (kind_at (kind_byte k) (message_tx k)) (sym (append-nil (rest_spelling version_2 k))) ∙ kind_again k [] is
 

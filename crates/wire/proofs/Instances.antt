@@ -12,6 +12,7 @@ one_is : (a b : Bool) (P : Type 0) → (a ≡ true → P) → (b ≡ true → P)
 one_is true b P p q h = p refl
 one_is false b P p q h = q h
 
+-- a branch's number is below the limit
 pub branches_below : (bs : List BranchParts) (rm : ℕ) → All IsBranch bs → list_any (is_at rm) bs ≡ true → rm < most_managers
 branches_below [] rm each h = absurd (cc)
 branches_below (b ∷ bs) rm each h =
@@ -20,6 +21,7 @@ branches_below (b ∷ bs) rm each h =
     (λ there. branches_below bs rm (λ k d lt. each (suc k) d (omega arith)) there)
     h
 
+-- so is an instance of a transaction
 pub instance_below : {tx : TxParts} {rm : ℕ} → IsInstance tx rm → rm < most_managers
 instance_below {tx} {rm} is = branches_below tx.branches rm is.valid.branches.each is.named
 
@@ -78,10 +80,12 @@ no_more_than (n ∷ ns) (b ∷ bs) up ups named =
     omega arith)
     named.0
 
+-- a bundle has no more instances than there may be branches
 pub few_instances : {tx : TxParts} {ns : List ℕ} → AreInstances tx ns → length ns ≤ most_branches
 few_instances {tx} {ns} are =
     let fewer = no_more_than ns tx.branches are.ascending are.valid.branches.ascending are.named in
     omega (arith, are.valid.branches.few)
 
+-- and their numbers are below the limit
 pub instances_below : {tx : TxParts} {ns : List ℕ} → AreInstances tx ns → AllByRecursion (λ n. n < most_managers) ns
 instances_below {tx} {ns} are = each_below tx.branches ns are.valid.branches.each are.named

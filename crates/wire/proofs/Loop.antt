@@ -16,6 +16,7 @@ regroup front x None = refl
 
 module _ {X : Type 0} (one : List ℕ → Option (X × List ℕ)) (front : List X) (count i : ℕ) (bytes : List ℕ)
     (total : Option (List X × List ℕ)) where
+  -- one value more
   pub goes_on : (x : X) (after : List ℕ) → i < count → one bytes ≡ Some (x, after)
       → with_front front (list_at one (count - i) bytes) ≡ total
       → with_front (front ++ x ∷ []) (list_at one (count - (i + 1)) after) ≡ total
@@ -27,6 +28,7 @@ module _ {X : Type 0} (one : List ℕ → Option (X × List ℕ)) (front : List 
       rw (k, h) (regroup front x left) in
       sym taken ∙ so_far
 
+  -- where there is none, the whole has none
   pub ends : i < count → one bytes ≡ None → with_front front (list_at one (count - i) bytes) ≡ total → total ≡ None
   unfolding list_at
   ends lt h so_far =
@@ -34,6 +36,7 @@ module _ {X : Type 0} (one : List ℕ → Option (X × List ℕ)) (front : List 
       let taken : with_front front (list_at one (count - i) bytes) ≡ None = rw (k, h) refl in
       sym so_far ∙ taken
 
+  -- where all were taken, they are the whole's values
   pub is_done : count ≤ i → with_front front (list_at one (count - i) bytes) ≡ total → total ≡ Some (front, bytes)
   unfolding list_at
   is_done le so_far =

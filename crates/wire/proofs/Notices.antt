@@ -31,6 +31,7 @@ notice_again : (notice : Notice) → IsNotice notice → notice_at (notice_spell
 unfolding notice_at
 notice_again notice is = fields_again notice is
 
+-- a notice that was spelled is found
 pub found : (notice : Notice) (bytes : List ℕ) → SpellsNotice notice bytes → notice_at bytes ≡ Some notice
 found notice bytes is = ap notice_at is.spelled ∙ notice_again notice is.valid
 
@@ -81,6 +82,7 @@ fields_spelled notice fields is e =
     (some_same read notice e)
     (record { manager = big_below 2 fields manager is em; floor = two.valid }, same))))
 
+-- one that is found was spelled
 pub spelled : (notice : Notice) (bytes : List ℕ) → IsBytes bytes → notice_at bytes ≡ Some notice → SpellsNotice notice bytes
 spelled notice bytes is e =
     headed notice bytes _ e (λ fields h.
@@ -98,5 +100,6 @@ no_kind fields = by (tx_at version_2 fields) refl
     by None e = rw e refl
     by (Some x) e = rw e refl
 
+-- bytes of a notice are no message's
 pub no_message : (notice : Notice) (bytes : List ℕ) → notice_at bytes ≡ Some notice → message_at bytes ≡ None
 no_message notice bytes e = headed notice bytes _ e (λ fields h. ap message_at h.head ∙ no_kind fields)

@@ -16,9 +16,11 @@ tx_bytes k = tx_spelling version_2 (message_tx k)
 abbrev rest_bytes : Kind → List ℕ
 rest_bytes k = rest_spelling version_2 k
 
+-- spellings that are the same have the same code
 pub codes : (v a w b : ℕ) (xs ys : List ℕ) → v ∷ a ∷ xs ≡ w ∷ b ∷ ys → (a ≡ b) × (xs ≡ ys)
 codes v a w b xs ys e = (cc, cc)
 
+-- no spelling begins another
 pub begins_none : (k m : Kind) (rest : List ℕ) → IsMessage k → IsMessage m → spelling k ++ rest ≡ spelling m → (k ≡ m) × (rest ≡ [])
 begins_none k m rest is-k is-m e =
     let heads =
@@ -37,8 +39,10 @@ begins_none k m rest is-k is-m e =
     let both = some_same (k, rest) (m, []) (sym (kind_again k rest is-k) ∙ same ∙ kind_whole m is-m) in
     (ap (λ (p : Kind × List ℕ). p.0) both, ap (λ (p : Kind × List ℕ). p.1) both)
 
+-- a message has one spelling
 pub spelled_once : (k : Kind) (xs ys : List ℕ) → Spells k xs → Spells k ys → xs ≡ ys
 spelled_once k xs ys p q = p.spelled ∙ sym q.spelled
 
+-- a spelling has one message
 pub means_one : (k m : Kind) (bytes : List ℕ) → Spells k bytes → Spells m bytes → k ≡ m
 means_one k m bytes p q = (begins_none k m [] p.message q.message (append-nil (spelling k) ∙ sym p.spelled ∙ q.spelled)).0

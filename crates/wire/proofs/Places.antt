@@ -16,6 +16,7 @@ use Rattle.wire.proofs.Spelled.{Front, bytes_after, joined, some_same, step, unl
 
 -- ---- what is spelled is taken again
 
+-- a place, as a name begins
 pub name_again : (place : Place) (rest : List ℕ) → IsPlace place → name_at (place_spelling place ++ rest) ≡ Some (place, rest)
 unfolding name_at
 name_again place rest is =
@@ -33,6 +34,7 @@ big_below width bytes x is e =
     ap (λ (x : ℕ × List ℕ). x.0) (some_same (big_number width bytes, drop width bytes) x t.1) in
     subst (λ (n : ℕ). n < 256 ^ width) same (big_from-lt 0 width bytes is)
 
+-- a part of a name that was taken is short enough
 pub component_few : (bytes : List ℕ) (x : List ℕ × List ℕ) → component_at bytes ≡ Some x → length x.0 ≤ most_component
 unfolding component_at
 component_few [] x e = absurd (cc)
@@ -59,6 +61,7 @@ pub record Named (bytes : List ℕ) (x : Place × List ℕ) : Type 0 where
   pub front : Front bytes (place_spelling x.0) x.1
   pub valid : IsPlace x.0
 
+-- a place that was taken was spelled
 pub name_spelled : (bytes : List ℕ) (x : Place × List ℕ) → IsBytes bytes → name_at bytes ≡ Some x → Named bytes x
 unfolding name_at
 name_spelled bytes x is e =

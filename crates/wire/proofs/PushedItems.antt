@@ -15,6 +15,7 @@ firsts-drop : {X : Type 0} (n : ℕ) (array : List X) → drop 1 (firsts n array
 firsts-drop n [] = refl
 firsts-drop n (x ∷ xs) = drop-replicate 1 n x
 
+-- an array of items with one item more
 pub pushed : {X : Type 0} (count : ℕ) (array : List X) (x : X) → IsItemArray count array → count < most_branches
     → IsItemArray (count + 1) (slice_set array count x)
 pushed count array x ok lt = record {

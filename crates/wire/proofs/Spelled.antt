@@ -28,10 +28,12 @@ pub record Front (bytes front rest : List ℕ) : Type 0 where
   pub same : bytes ≡ front ++ rest
   pub after : IsBytes rest
 
+-- what stands behind bytes are bytes
 pub bytes_after : (front rest : List ℕ) → IsBytes (front ++ rest) → IsBytes rest
 bytes_after [] rest is = is
 bytes_after (x ∷ front) rest is = bytes_after front rest (λ i. is (suc i))
 
+-- so a front and what stands behind it
 pub front_of : (bytes front rest : List ℕ) → IsBytes bytes → bytes ≡ front ++ rest → Front bytes front rest
 front_of bytes front rest is e = record { same = e; after = bytes_after front rest (subst IsBytes e is) }
 
@@ -43,6 +45,7 @@ joined bytes first middle second rest f g = record {
   after = g.after;
 }
 
+-- what there is, is the same
 pub some_same : {X : Type 0} (x y : X) → Some x ≡ Some y → x ≡ y
 some_same x y e = cc
 
@@ -87,6 +90,7 @@ four (a ∷ b ∷ c ∷ d ∷ rest) is le =
     let last : n % 256 ≡ d = omega (arith, is 0, is 1, is 2, is 3) in
     λ i. sym first i ∷ sym second i ∷ sym third i ∷ sym last i ∷ rest
 
+-- a byte that was taken was spelled
 pub byte_spelled : (bytes : List ℕ) (x : ℕ × List ℕ) → IsBytes bytes → byte_at bytes ≡ Some x → Front bytes (x.0 ∷ []) x.1
 byte_spelled [] x is e = absurd (cc)
 byte_spelled (b ∷ rest) x is e =
@@ -102,17 +106,21 @@ big_spelled width whole bytes x is e =
     subst (λ (x : ℕ × List ℕ). Front bytes (big_bytes width x.0) x.1) (some_same (big_number width bytes, drop width bytes) x t.1)
     (front_of bytes (big_bytes width (big_number width bytes)) (drop width bytes) is (whole bytes is long))
 
+-- a number
 pub number_spelled : (bytes : List ℕ) (x : ℕ × List ℕ) → IsBytes bytes → number_at bytes ≡ Some x → Front bytes (number_spelling x.0) x.1
 number_spelled bytes x is e = big_spelled 4 four bytes x is e
 
+-- a number of two bytes
 pub short_spelled : (bytes : List ℕ) (x : ℕ × List ℕ) → IsBytes bytes → big_at 2 bytes ≡ Some x → Front bytes (big_bytes 2 x.0) x.1
 short_spelled bytes x is e = big_spelled 2 two bytes x is e
 
+-- the number of a resource manager, in each version
 pub rm_spelled : (v : VersionNumber) (bytes : List ℕ) (x : ℕ × List ℕ) → IsBytes bytes → rm_at (version_of v) bytes ≡ Some x
     → Front bytes (rm_spelling (version_of v) x.0) x.1
 rm_spelled First bytes x is e = big_spelled 1 one_byte bytes x is e
 rm_spelled Second bytes x is e = short_spelled bytes x is e
 
+-- a part of a name
 pub component_spelled : (bytes : List ℕ) (x : List ℕ × List ℕ) → IsBytes bytes → component_at bytes ≡ Some x
     → Front bytes (component_spelling x.0) x.1
 unfolding component_at
@@ -126,6 +134,7 @@ component_spelled (n ∷ rest) x is e =
     subst (λ (x : List ℕ × List ℕ). Front (n ∷ rest) (component_spelling x.0) x.1) (some_same (take n rest, drop n rest) x long.1)
     (front_of (n ∷ rest) (component_spelling (take n rest)) (drop n rest) is same)
 
+-- a branch
 pub branch_spelled : (v : VersionNumber) (bytes : List ℕ) (x : BranchParts × List ℕ) → IsBytes bytes
     → branch_at (version_of v) bytes ≡ Some x
     → Front bytes (branch_spelling (version_of v) x.0) x.1
@@ -143,6 +152,7 @@ pub record List_front {X : Type 0} (spell : X → List ℕ) (count : ℕ) (bytes
   pub front : Front bytes (flat_map spell x.0) x.1
   pub counted : length x.0 ≡ count
 
+-- as many values as were taken, where each was spelled
 pub list_spelled : {X : Type 0} (one : List ℕ → Option (X × List ℕ)) (spell : X → List ℕ)
     → ((bytes : List ℕ) (x : X × List ℕ) → IsBytes bytes → one bytes ≡ Some x → Front bytes (spell x.0) x.1)
     → (n : ℕ) (bytes : List ℕ) (x : List X × List ℕ) → IsBytes bytes → list_at one n bytes ≡ Some x → List_front spell n bytes x
@@ -160,6 +170,7 @@ list_spelled {X} one spell was (suc n) bytes x is e =
     subst (λ (x : List X × List ℕ). List_front spell (suc n) bytes x) (some_same (first.0 ∷ others.0, others.1) x e)
     (record { front = subst (λ (xs : List ℕ). Front bytes xs others.1) spelled whole; counted = ap suc later.counted })))
 
+-- a transaction
 pub tx_spelled : (v : VersionNumber) (bytes : List ℕ) (x : TxParts × List ℕ) → IsBytes bytes → tx_at (version_of v) bytes ≡ Some x
     → Front bytes (tx_spelling (version_of v) x.0) x.1
 unfolding tx_at
@@ -181,6 +192,7 @@ tx_spelled v bytes x is e =
     (joined bytes (number_spelling format.0) format.1 (component_spelling gtrid.0 ++ branches_spelling (version_of v) branches.0) branches.1
     one named)))))
 
+-- a vote
 pub vote_spelled : (bytes : List ℕ) (x : Vote × List ℕ) → IsBytes bytes → vote_at bytes ≡ Some x → Front bytes (vote_byte x.0 ∷ []) x.1
 unfolding vote_at
 vote_spelled [] x is e = absurd (cc)
@@ -196,6 +208,7 @@ vote_spelled (v ∷ rest) x is e = by (eqb v 1) (eqb v 2) (eqb-true v 1) (eqb-tr
         (front_of (v ∷ rest) (2 ∷ []) rest is (ap (λ (n : ℕ). n ∷ rest) (two-is refl)))
     by false false one-is two-is e = absurd (cc)
 
+-- a report
 pub report_spelled : (bytes : List ℕ) (x : Option (ℕ × Vote) × List ℕ) → IsBytes bytes → report_at bytes ≡ Some x
     → Front bytes (report_spelling x.0) x.1
 unfolding report_at
@@ -222,6 +235,7 @@ report_spelled bytes x is e =
         subst (λ (x : Option (ℕ × Vote) × List ℕ). Front bytes (report_spelling x.0) x.1) (some_same (Some (ballot.0, vote.0), vote.1) x e)
         (joined bytes (number_spelling ballot.0) ballot.1 (vote_byte vote.0 ∷ []) vote.1 one last))
 
+-- an instance and the number behind it
 pub instance_spelled : (bytes : List ℕ) (x : ℕ × ℕ × List ℕ) → IsBytes bytes → instance_at version_2 bytes ≡ Some x
     → Front bytes (rm_spelling version_2 x.0 ++ number_spelling x.1) x.2
 unfolding instance_at
@@ -233,6 +247,7 @@ instance_spelled bytes x is e =
     (some_same (rm.0, ballot.0, ballot.1) x e)
     (joined bytes (rm_spelling version_2 rm.0) rm.1 (number_spelling ballot.0) ballot.1 one two)))
 
+-- an item of a bundle of phase 1b
 pub report_item_spelled : (bytes : List ℕ) (x : InstanceReport × List ℕ) → IsBytes bytes → report_item_at bytes ≡ Some x
     → Front bytes (report_item_spelling version_2 x.0) x.1
 unfolding report_item_at
@@ -244,6 +259,7 @@ report_item_spelled bytes x is e =
     subst (λ (x : InstanceReport × List ℕ). Front bytes (report_item_spelling version_2 x.0) x.1) (some_same (item, report.1) x e)
     (joined bytes (rm_spelling version_2 rm.0) rm.1 (report_spelling report.0) report.1 one two)))
 
+-- an item of a bundle of phase 2b
 pub accept_item_spelled : (bytes : List ℕ) (x : InstanceAccept × List ℕ) → IsBytes bytes → accept_item_at bytes ≡ Some x
     → Front bytes (accept_item_spelling version_2 x.0) x.1
 unfolding accept_item_at
@@ -255,6 +271,7 @@ accept_item_spelled bytes x is e =
     subst (λ (x : InstanceAccept × List ℕ). Front bytes (accept_item_spelling version_2 x.0) x.1) (some_same (item, vote.1) x e)
     (joined bytes (rm_spelling version_2 i.0 ++ number_spelling i.1) i.2 (vote_byte vote.0 ∷ []) vote.1 one two)))
 
+-- the items of a bundle, behind their count
 pub items_spelled : {X : Type 0} (one : List ℕ → Option (X × List ℕ)) (spell : X → List ℕ)
     → ((bytes : List ℕ) (x : X × List ℕ) → IsBytes bytes → one bytes ≡ Some x → Front bytes (spell x.0) x.1)
     → (bytes : List ℕ) (x : List X × List ℕ) → IsBytes bytes → items_at one bytes ≡ Some x

@@ -15,6 +15,7 @@ pub spelled_is : (bytes : List ℕ) (tx : TxParts) → IsTx tx → bytes ≡ tx_
 unfolding tx_spelled
 spelled_is bytes tx is e = rw (tx_taken bytes tx [] is (e ∙ sym (append-nil (tx_spelling version_2 tx)))) refl
 
+-- the spelling of a transaction spells one
 pub is_spelled : (bytes : List ℕ) (tx : TxParts) → IsTx tx → bytes ≡ tx_spelling version_2 tx → IsSpelled bytes
 is_spelled bytes tx is e =
     let back = spelled_is bytes tx is e in

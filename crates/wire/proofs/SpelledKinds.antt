@@ -125,6 +125,7 @@ by {X} code n first other x P e here there = from (eqb code n) (eqb-true code n)
 at_code : {code n : ℕ} {tx : TxParts} {bytes : List ℕ} {k : Kind} → code ≡ n → IsRest n tx bytes k → IsRest code tx bytes k
 at_code {code} {n} {tx} {bytes} {k} e rest = subst (λ (n : ℕ). IsRest n tx bytes k) (sym e) rest
 
+-- what follows a message's transaction was spelled
 pub kind_spelled : (code : ℕ) (tx : TxParts) (bytes : List ℕ) (k : Kind) → IsBytes bytes → kind_at code tx bytes ≡ Some (k, [])
     → IsRest code tx bytes k
 unfolding kind_at

@@ -6,6 +6,7 @@ use Rattle.xid.specs.Limits.{most_branches}
 use Rattle.wire.specs.Reading.{byte_at, list_at, items_at, with_first}
 
 module _ {X : Type 0} (one : List ℕ → Option (X × List ℕ)) (bytes rest : List ℕ) where
+  -- the first item and those behind it are the bundle's
   pub all_taken : (count : ℕ) (first : X) (after : List ℕ) → Some (count, rest) ≡ byte_at bytes → count ≢ 0 → count ≤ most_branches
       → Some (first, after) ≡ one rest → with_first first (list_at one (count - 1) after) ≡ items_at one bytes
   unfolding items_at list_at
@@ -15,6 +16,7 @@ module _ {X : Type 0} (one : List ℕ → Option (X × List ℕ)) (bytes rest : 
       let less : suc n - 1 ≡ n = omega arith in
       rw (sym e, eqb-suc-zero n, fits, sym got, less) refl
 
+  -- where the first can't be taken, the bundle can't
   pub none_taken : (count : ℕ) → Some (count, rest) ≡ byte_at bytes → count ≢ 0 → count ≤ most_branches
       → None ≡ one rest → None ≡ items_at one bytes
   unfolding items_at list_at

@@ -24,6 +24,7 @@ managers_decide v bs =
     refl (λ _ _. refl) bs
 
 module _ (v : Version) (bytes : List ℕ) where
+  -- where the parts of none can be taken, no transaction is
   pub no_parts : tx_at v bytes ≡ None → tx_in v bytes ≡ None
   unfolding tx_in
   no_parts e = rw e refl
@@ -33,6 +34,7 @@ module _ (v : Version) (bytes : List ℕ) where
   unfolding tx_in
   asked tx rest e = rw e refl
 
+  -- so it is where the parts are no transaction's
   pub no_tx : (tx : TxParts) (rest : List ℕ) → tx_at v bytes ≡ Some (tx, rest) → (IsTx tx → ⊥) → tx_in v bytes ≡ None
   no_tx tx rest e not = asked tx rest e ∙ by (is_tx tx) (λ h. not ((tx_decides tx).0 h))
     where
@@ -43,10 +45,12 @@ module _ (v : Version) (bytes : List ℕ) where
       by true nay = absurd (nay refl)
       by false nay = refl
 
+  -- and where a number is too great for the version
   pub too_great : (tx : TxParts) (rest : List ℕ) → tx_at v bytes ≡ Some (tx, rest) → IsTx tx → are_managers v tx.branches ≡ false
       → tx_in v bytes ≡ None
   too_great tx rest e is great = let yes : is_tx tx ≡ true = (tx_decides tx).1 is in asked tx rest e ∙ rw (yes, great) refl
 
+  -- else it is taken
   pub found : (tx : TxParts) (rest : List ℕ) → tx_at v bytes ≡ Some (tx, rest) → IsTx tx → are_managers v tx.branches ≡ true
       → tx_in v bytes ≡ Some (tx, rest)
   found tx rest e is small = let yes : is_tx tx ≡ true = (tx_decides tx).1 is in asked tx rest e ∙ rw (yes, small) refl
@@ -74,6 +78,7 @@ pub wide : (v : VersionNumber) → IsWide (version_of v)
 wide First = omega arith
 wide Second = omega arith
 
+-- a transaction that was taken in a version was spelled in it
 pub in_spelled : (v : VersionNumber) (bytes : List ℕ) (x : TxParts × List ℕ) → IsBytes bytes → tx_in (version_of v) bytes ≡ Some x
     → IsTxIn (version_of v) x.0 × Front bytes (tx_spelling (version_of v) x.0) x.1
 unfolding tx_in
@@ -89,6 +94,7 @@ in_spelled v bytes x is e =
     subst (λ (x : TxParts × List ℕ). IsTxIn (version_of v) x.0 × Front bytes (tx_spelling (version_of v) x.0) x.1) two.1
     (in-it, tx_spelled v bytes y is ey))
 
+-- and one that was spelled in it is taken
 pub in_again : (v : VersionNumber) (tx : TxParts) (rest : List ℕ) → IsTxIn (version_of v) tx
     → tx_in (version_of v) (tx_spelling (version_of v) tx ++ rest) ≡ Some (tx, rest)
 in_again v tx rest is =

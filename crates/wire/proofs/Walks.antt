@@ -31,6 +31,7 @@ pub record Stands (bytes : List ℕ) : Type 0 where
       branch_at version_2 bytes
       ≡ Some (record { rm = big_number 2 bytes; bqual = take (slice_index bytes 2) (drop 3 bytes) }, drop (3 + slice_index bytes 2) bytes)
 
+-- where a branch can be taken, it stands at the front of the bytes
 pub stands : (bytes : List ℕ) → IsTrue (is_some (branch_at version_2 bytes)) → Stands bytes
 unfolding branch_at component_at
 stands [] some = absurd (cc (some))
@@ -82,6 +83,7 @@ next bs i bytes d each lt e =
     ∙ flat_map-cons (branch_spelling version_2) (get_or bs i d) (drop (i + 1) bs) in
     ap (branch_at version_2) (e ∙ split) ∙ branch_again version_2 (get_or bs i d) (branches_from bs (i + 1)) wide_2 is.rm is
 
+-- in front of the last, there is a branch to be taken
 pub some_next : (bs : List BranchParts) (i : ℕ) (bytes : List ℕ) → All IsBranch bs → i < length bs → bytes ≡ branches_from bs i
     → IsTrue (is_some (branch_at version_2 bytes))
 some_next bs i bytes each lt e = let there = next bs i bytes (record { rm = 0; bqual = [] }) each lt e in rw there refl
@@ -92,6 +94,7 @@ pub record Took (bs : List BranchParts) (i : ℕ) (d : BranchParts) (rm : ℕ) (
   pub name : bqual ≡ (get_or bs i d).bqual
   pub after : rest ≡ branches_from bs (i + 1)
 
+-- it is the branch of that place
 pub took : (bs : List BranchParts) (i : ℕ) (bytes : List ℕ) (d : BranchParts) (rm : ℕ) (bqual rest : List ℕ) → All IsBranch bs
     → i < length bs
     → bytes ≡ branches_from bs i
@@ -151,6 +154,7 @@ all_last n (m ∷ ms) most up = by (ltb n most) (ltb m most) refl refl (all_last
     by false false et eu e = e
     by false true et eu e = absurd (omega (arith, lt, ltb-true m most eu, ltb-false n most et))
 
+-- numbers that ascend are below a limit where the last one is
 pub all_below : (ns : List ℕ) (most : ℕ) → IsStrictlyIncreasing ns → 0 < length ns
     → nat_lt (slice_index ns (length ns - 1)) most ≡ list_all (λ n. nat_lt n most) ns
 all_below [] most up some = absurd (omega arith)
@@ -163,6 +167,7 @@ pub found : (bs : List BranchParts) (rm i : ℕ) (d : BranchParts) → i ≡ pos
     → find (is_at rm) bs ≡ Some (get_or bs i d)
 found bs rm i d e lt = find_at (is_at rm) bs ∙ ap (slice_get bs) (sym e) ∙ slice_get-get_or bs i d lt
 
+-- a search that went over all branches finds none
 pub not_found : (bs : List BranchParts) (rm i : ℕ) → i ≡ position_or_len (is_at rm) bs → length bs ≤ i → find (is_at rm) bs ≡ None
 not_found bs rm i e le = find_at (is_at rm) bs ∙ ap (slice_get bs) (sym e) ∙ slice_get_past bs i le
 

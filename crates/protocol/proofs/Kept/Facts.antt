@@ -113,12 +113,14 @@ module _ (floor : Option Place) where
     begun_none (stored.Ballot other b) e = ap (λ (t : Bool). if t then Some b else None) e
     begun_none f e = refl
 
+    -- a transaction that isn't below the floor has the slots that it had
     pub slot_kept : slot kept tx ≡ slot facts tx
     slot_kept = λ k i. record {
       mbal = greatest (map_kept (ballot_joined tx i) facts (λ f dropped. joined_none i f (apart tx above f dropped)) k);
       report = last_or None (map_kept (accept_of tx i) facts (λ f dropped. accept_none i f (apart tx above f dropped)) k);
     }
 
+    -- the ballot that its leader began last
     pub last_ballot_kept : last_ballot kept tx ≡ last_ballot facts tx
     last_ballot_kept =
         ap greatest (map_kept (ballot_begun tx) facts (λ f dropped. begun_none f (apart tx above f dropped)))
@@ -132,15 +134,18 @@ module _ (floor : Option Place) where
     abort_kept : list_any (is_abort_of tx) kept ≡ list_any (is_abort_of tx) facts
     abort_kept = any_kept (is_abort_of tx) facts (λ f dropped. other_abort tx f (apart tx above f dropped))
 
+    -- the vote that was cast
     pub vote_kept : vote_in kept tx ≡ vote_in facts tx
     vote_kept = λ k.
         if voted_kept votes.Prepared k then Some votes.Prepared
         else if voted_kept votes.Aborted k then Some votes.Aborted
         else None
 
+    -- whether it has ended
     pub ended_kept : is_ended kept tx ≡ is_ended facts tx
     ended_kept = λ k. commit_kept k || abort_kept k
 
+    -- and the view of it
     pub view_kept : view kept tx ≡ view facts tx
     view_kept = λ k.
         if voted_kept votes.Aborted k || abort_kept k then views.Aborted
@@ -178,6 +183,7 @@ module _ (floor : Option Place) where
     none_more None ys e = refl
     none_more (Some y) ys e = ap (λ (b : Bool). b || list_any (xid_eq x) ys) e
 
+    -- whether a name is spent
     pub spent_kept : (facts : List Fact) → is_spent rm (kept_facts floor facts) x ≡ is_spent rm facts x
     spent_kept [] = refl
     spent_kept (f ∷ fs) =
@@ -190,12 +196,15 @@ module _ (floor : Option Place) where
   -- ---- prepared branches
 
   module _ (facts : List Fact) where
+    -- whether the transaction of a bound branch is prepared by all facts
     abbrev pub now : Bound → Bool
     now bound = is_prepared_view (view facts bound.tx)
 
+    -- whether it is by what is kept of them
     abbrev pub earlier : Bound → Bool
     earlier bound = is_prepared_view (view (kept_facts floor facts) bound.tx)
 
+    -- a fact that binds a branch is about its transaction
     pub bound_tx : (f : Fact) (bound : Bound) → branch_bound_by f ≡ Some bound → fact_tx f ≡ bound.tx
     bound_tx (stored.VotePrepared tx keys) bound e =
         let same : record { tx = tx; keys = keys } ≡ bound = cc (e) in ap (λ (b : Bound). b.tx) same
@@ -213,6 +222,7 @@ module _ (floor : Option Place) where
     is_view views.Committed e = absurd (cc (e))
     is_view views.Aborted e = absurd (cc (e))
 
+    -- the two agree where the fact that bound it is kept
     pub same_test : (f : Fact) → p f ≡ true → (bound : Bound) → branch_bound_by f ≡ Some bound → earlier bound ≡ now bound
     same_test f kept bound e =
         let above : is_below floor bound.tx ≡ false =
@@ -255,11 +265,13 @@ module _ (floor : Option Place) where
           (same_test f kept) (bound_by fs))
           (λ dropped. bound_by fs ∙ sym (none_there (branch_bound_by f) (filter_map branch_bound_by fs) (not_now f dropped)))
 
+      -- the branches that are bound are the same
       pub bound_kept : bound_branches (kept_facts floor facts) ≡ bound_branches facts
       bound_kept = bound_by facts
 
 -- ---- the name that a transaction has
 
+-- of a transaction that isn't below the floor, whether its branch's name is spent is the same
 pub name_above : (floor : Option Place) (facts : List Fact) (tx : TxParts) (rm : ℕ) → is_below floor tx ≡ false → (o : Option BranchParts)
     → option_map_or (is_spent rm (kept_facts floor facts)) (option_map (xid_of tx) o) false
     ≡ option_map_or (is_spent rm facts) (option_map (xid_of tx) o) false

@@ -39,6 +39,7 @@ use Rattle.protocol.specs.Kept.{kept_leader}
 -- ---- filters
 
 module _ {X : Type 0} (p : X → Bool) where
+  -- what passes a test that only what is kept passes is among what is kept
   pub any_filter : (q : X → Bool) (xs : List X) → ((x : X) → p x ≡ false → q x ≡ false) → list_any q (filter p xs) ≡ list_any q xs
   any_filter q [] none = refl
   any_filter q (x ∷ xs) none =
@@ -46,6 +47,7 @@ module _ {X : Type 0} (p : X → Bool) where
       (λ kept. ap (λ (b : Bool). q x || b) (any_filter q xs none))
       (λ dropped. any_filter q xs none ∙ sym (ap (λ (b : Bool). b || list_any q xs) (none x dropped)))
 
+  -- so it is for what is made of each
   pub map_filter : {Y : Type 0} (g : X → Option Y) (xs : List X) → ((x : X) → p x ≡ false → g x ≡ None)
       → filter_map g (filter p xs) ≡ filter_map g xs
   map_filter g [] none = refl
@@ -54,6 +56,7 @@ module _ {X : Type 0} (p : X → Bool) where
       (λ kept. ap (λ (ys : List Y). cons_option (g x) ys) (map_filter g xs none))
       (λ dropped. map_filter g xs none ∙ sym (ap (λ (o : Option Y). cons_option o (filter_map g xs)) (none x dropped)))
 
+  -- and for what is found first
   pub find_filter : (q : X → Bool) (xs : List X) → ((x : X) → p x ≡ false → q x ≡ false) → find q (filter p xs) ≡ find q xs
   find_filter q [] none = refl
   find_filter q (x ∷ xs) none =
@@ -112,6 +115,7 @@ module _ (floor : Option Place) (tx : TxParts) (above : is_below floor tx ≡ fa
   abbrev pub is_kept_begun : Begun → Bool
   is_kept_begun begun = not (is_below floor begun.tx)
 
+  -- a transaction that isn't kept is another one
   pub other_tx : (t : TxParts) → is_kept_tx t ≡ false → tx_eq tx t ≡ false
   other_tx t dropped = by_test (tx_eq tx t) refl
     where
@@ -158,6 +162,7 @@ module _ (floor : Option Place) (tx : TxParts) (above : is_below floor tx ≡ fa
     abbrev pub few : List Kind
     few = filter is_kept_message heard
 
+    -- the accepts that were heard of it are the same
     pub accepts_kept : (i b : ℕ) (v : Vote) (a : ℕ) → list_any (is_accept_of tx i b v a) few ≡ list_any (is_accept_of tx i b v a) heard
     accepts_kept i b v a =
         any_filter is_kept_message (is_accept_of tx i b v a) heard (λ m dropped. accept_by i b v a m (other_tx (message_tx m) dropped))
@@ -167,6 +172,7 @@ module _ (floor : Option Place) (tx : TxParts) (above : is_below floor tx ≡ fa
         list_any (λ b. is_majority n (λ a. accepts_kept i b v a k))
         (map_filter is_kept_message (ballot_told tx i v) heard (λ m dropped. told_by i v m (other_tx (message_tx m) dropped)) k)
 
+    -- so are the reports
     pub reported_by : (i b a : ℕ) → has_reported few tx i b a ≡ has_reported heard tx i b a
     reported_by i b a =
         any_filter is_kept_message (is_report_of tx i b a) heard (λ m dropped. report_by i b a m (other_tx (message_tx m) dropped))
@@ -197,6 +203,7 @@ module _ (floor : Option Place) (tx : TxParts) (above : is_below floor tx ≡ fa
       ap (λ (t : Bool). t || is_proposed all tx i b) (ap (λ (t : Bool). (b == c) && ((i == j) && t)) e ∙ last_false (b == c) (i == j))
   none_proposed i b all m e = refl
 
+  -- and what was proposed
   pub proposed_kept : (proposed : List Kind) (i b : ℕ) → is_proposed (filter is_kept_message proposed) tx i b ≡ is_proposed proposed tx i b
   proposed_kept [] i b = refl
   proposed_kept (m ∷ ms) i b =
@@ -364,6 +371,7 @@ module _ (floor : Option Place) (tx : TxParts) (above : is_below floor tx ≡ fa
       memory = known;
     }
 
+    -- a call to commit does the same with what is kept
     pub kept_commit : (memory : LeaderMemory)
         → on_commit_call config ballots (K memory) tx ≡ with_kept (on_commit_call config ballots memory tx)
     kept_commit memory =
@@ -379,6 +387,7 @@ module _ (floor : Option Place) (tx : TxParts) (above : is_below floor tx ≡ fa
         by_test true s = refl
         by_test false s = refl
 
+    -- so does a call of a status
     pub kept_status : (memory : LeaderMemory)
         → on_status_call config ballots (K memory) tx ≡ with_kept (on_status_call config ballots memory tx)
     kept_status memory = λ k.
@@ -404,6 +413,7 @@ module _ (floor : Option Place) (tx : TxParts) (above : is_below floor tx ≡ fa
       kept_by false false true status before met begun = refl
       kept_by false false false status before met begun = refl
 
+      -- and a timeout
       pub kept_timeout : (memory : LeaderMemory)
           → on_leader_timeout config l ballots (K memory) tx ≡ with_kept (on_leader_timeout config l ballots memory tx)
       kept_timeout memory =
@@ -420,6 +430,7 @@ module _ (config : Config) (floor : Option Place) (ballots : StoredBallots) (mem
   abbrev Kept : Effect LeaderMemory → Effect LeaderMemory
   Kept e = record { answer = e.answer; fact = e.fact; sends = e.sends; memory = kept_leader floor e.memory }
 
+  -- and a message
   pub message_forgets : (m : Kind) → is_below floor (message_tx m) ≡ false
       → on_leader_message config ballots (kept_leader floor memory) m ≡ Kept (on_leader_message config ballots memory m)
   message_forgets (kinds.P1b tx i b report a) above =

@@ -125,6 +125,7 @@ module _ (floor : Option Place) where
   push_dropped [] f e = cond-false (p f) (f ∷ []) [] e
   push_dropped (x ∷ xs) f e = ap (λ (zs : List Fact). if p x then x ∷ zs else zs) (push_dropped xs f e)
 
+  -- what is kept of facts plays on what is kept of those before them
   pub all_play_kept : (config : Config) (who : NodeId) (before facts : List Fact) → all_play config who before facts ≡ true
       → all_play config who (kept_facts floor before) (kept_facts floor facts) ≡ true
   all_play_kept config who before [] h = refl

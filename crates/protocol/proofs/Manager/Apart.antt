@@ -70,11 +70,13 @@ fewer_apart rm facts branches fewer some distinct are = record {
   ordered = λ b h. are.ordered b (some b h);
 }
 
+-- a branch that is left has another name than the one that was taken away
 pub without_name : (branches : List Branch) (x : XidParts) (b : Branch) → IsIn (branches_without branches x) b → b.xid ≢ x
 without_name branches x b h e =
     both_ways (xid_eq b.xid x) (not-true (xid_eq b.xid x) (filter_kept (λ branch. not (xid_eq branch.xid x)) branches b h).1)
     ((xid_decides b.xid x).1 e)
 
+-- and it was there before
 pub without_some : (branches : List Branch) (x : XidParts) (b : Branch) → IsIn (branches_without branches x) b → IsIn branches b
 without_some branches x b h = (filter_kept (λ branch. not (xid_eq branch.xid x)) branches b h).0
 
@@ -83,6 +85,7 @@ without_distinct branches x distinct = named_once_filtered (λ branch. not (xid_
 
 -- ---- prepared branches
 
+-- a branch is bound by a stored vote to commit
 pub bound_is : (fact : Fact) (bound : Bound) → branch_bound_by fact ≡ Some bound → fact ≡ stored.VotePrepared bound.tx bound.keys
 bound_is (stored.VotePrepared tx keys) bound e =
     let first : Bound = record { tx = tx; keys = keys } in
@@ -94,12 +97,14 @@ pub record IsBoundBranch (facts : List Fact) (bound : Bound) : Type 0 where
   pub voted : IsIn facts (stored.VotePrepared bound.tx bound.keys)
   pub prepared : is_prepared_view (view facts bound.tx) ≡ true
 
+-- a branch that is bound has its fact
 pub bound_stored : (facts : List Fact) (bound : Bound) → IsIn (bound_branches facts) bound → IsBoundBranch facts bound
 bound_stored facts bound h =
     let kept = filter_kept (λ (b : Bound). is_prepared_view (view facts b.tx)) (filter_map branch_bound_by facts) bound h in
     let given = filter_map_given branch_bound_by facts bound kept.0 in
     record { voted = subst (IsIn facts) (bound_is given.source bound given.gives) given.among; prepared = kept.1 }
 
+-- and the other way round
 pub stored_bound : (facts : List Fact) (bound : Bound) → IsBoundBranch facts bound → IsIn (bound_branches facts) bound
 stored_bound facts bound is =
     filter_keeps (λ (b : Bound). is_prepared_view (view facts b.tx)) (filter_map branch_bound_by facts) bound
@@ -154,10 +159,12 @@ module _ (p : Branch → Bool) (branches : List Branch) (x : XidParts) (keys : L
       let found = found_among p branches b f in
       record { branch = b; among = found.0; name = names_it b found.1; holds = ap (λ o. unwrap_or o b.keys) e }
 
+-- keys that an idle branch has are held by it
 pub idle_branch : (branches : List Branch) (x : XidParts) (keys : List Touched) → idle_keys branches x ≡ Some keys
     → IsBranchHolding branches x keys
 idle_branch branches x keys e = idle_at _ branches x keys _ (λ b h. (xid_decides b.xid x).0 (and_parts (xid_eq b.xid x) _ h).0) refl e
 
+-- an answer is one name
 pub name_of : (o : Option XidParts) (x y : XidParts) → o ≡ Some x → o ≡ Some y → x ≡ y
 name_of o x y e f = ap (λ q. unwrap_or q x) (sym e ∙ f)
 
@@ -457,6 +464,7 @@ module _ (rm : ℕ) (facts : List Fact) (branches : List Branch) (x : XidParts) 
   after_apart End spent rows e done = mapped_apart End (λ k f. absurd (cc (f)))
   after_apart EndFail spent rows e done = mapped_apart EndFail (λ k f. absurd (cc (f)))
 
+  -- branches stay apart in what a call leaves
   pub call_apart : (first : List Row) (action : Action)
       → AreApart rm facts (on_call rm (stored_votes rm facts) (table first facts) branches x action).memory
   call_apart first action = cond_both

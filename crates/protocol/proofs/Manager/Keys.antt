@@ -27,6 +27,7 @@ names_name tx rm h = let found = any_find (is_at rm) tx.branches h in (xid_of tx
 
 -- ---- spent names
 
+-- a name that a fact is about is spent
 pub spent_by : (rm : ℕ) (facts : List Fact) (fact : Fact) (x : XidParts) → IsIn facts fact → xid_at (fact_tx fact) rm ≡ Some x
     → is_spent rm facts x ≡ true
 spent_by rm facts fact x h e =
@@ -62,6 +63,7 @@ touched_before keys key act k h = elim (or_cases (bytes_eq key k) (has_key k key
   | inr e ↦ inl e
 ]
 
+-- a branch keeps its name in each call
 pub changed_name : (action : Action) (b : Branch) → (branch_after action b).xid ≡ b.xid
 changed_name (Put key value) b = refl
 changed_name (Del key) b = refl
@@ -70,6 +72,7 @@ changed_name End b = refl
 changed_name EndFail b = refl
 changed_name action b = refl
 
+-- a key that it has afterwards it had, or the call is about
 pub changed_keys : (action : Action) (b : Branch) (k : List ℕ) → has_key k (branch_after action b).keys ≡ true
     → (has_key k b.keys ≡ true) ⊎ (key_of action ≡ Some k)
 changed_keys (Put key value) b k h =
@@ -158,11 +161,13 @@ written_by (Put key value) = Some key
 written_by (Del key) = Some key
 written_by action = None
 
+-- what a call writes is the key that it is about
 pub written_key : (action : Action) (k : List ℕ) → written_by action ≡ Some k → key_of action ≡ Some k
 written_key (Put key value) k e = e
 written_key (Del key) k e = e
 written_key action k e = absurd (cc (e))
 
+-- a key that it has written afterwards it had, or the call writes
 pub changed_writes : (action : Action) (b : Branch) (k : List ℕ) → AreAscending b.keys
     → is_write (act_on (branch_after action b).keys k) ≡ true → (is_write (act_on b.keys k) ≡ true) ⊎ (written_by action ≡ Some k)
 changed_writes (Put key value) b k ascending h =
@@ -184,6 +189,7 @@ writer_hinders_use false k state keys written = written
 same_key : (key k : List ℕ) → Some key ≡ Some k → k ≡ key
 same_key key k e = ap (λ (o : Option (List ℕ)). unwrap_or o key) (sym e)
 
+-- a branch that has written a key hinders every call about it
 pub writer_hinders : (action : Action) (k : List ℕ) (state : BranchState) (keys : List Touched) → key_of action ≡ Some k
     → is_write (act_on keys k) ≡ true → hinders action (view_by state keys) ≡ true
 writer_hinders (Put key value) k state keys e written =
@@ -208,6 +214,7 @@ IsHinderedUse state keys others touched =
 
 -- keys are apart from others where these hinder no use of them, and only then
 module _ (state : BranchState) (keys others : List Touched) where
+  -- where no touched key is hindered, the keys are disjoint
   pub disjoint_from : ((touched : Touched) → ¬ IsHinderedUse state keys others touched) → AreDisjoint keys others
   disjoint_from free = (
     λ key written held.
@@ -233,6 +240,7 @@ module _ (state : BranchState) (keys others : List Touched) where
   hinders_not touched true apart h e held = apart.0 touched.key e held
   hinders_not touched false apart h e written = apart.1 touched.key written (key_in keys touched h)
 
+  -- and the other way round
   pub disjoint_to : AreDisjoint keys others → AreAscending keys → (touched : Touched) → ¬ IsHinderedUse state keys others touched
   disjoint_to apart ascending touched is =
       hinders_not touched (is_write touched.act) apart is.0 (ap is_write (act_there keys touched ascending is.0)) is.1

@@ -9,6 +9,7 @@ use Rattle.ballot.specs.Greatest.{IsIn}
 use Rattle.protocol.specs.Holds.{AreDistinct, AreNamedOnce, names_of}
 use Rattle.protocol.proofs.Lists.{IsIn-append, IsIn-push, IsIn-map, IsIn-mapped, filter_kept, filter_map_given, filter_map_gives}
 
+-- with one name more that is new
 pub distinct_push : (xs : List XidParts) (x : XidParts) → AreDistinct xs → (IsIn xs x → ⊥) → AreDistinct (xs ++ x ∷ [])
 distinct_push [] x d new = (λ h. h, tt)
 distinct_push (y ∷ ys) x d new = (
@@ -16,6 +17,7 @@ distinct_push (y ∷ ys) x d new = (
   distinct_push ys x d.1 (λ h. new (inr h)),
 )
 
+-- with more names that are new
 pub distinct_append : (xs ys : List XidParts) → AreDistinct xs → AreDistinct ys → ((x : XidParts) → IsIn xs x → IsIn ys x → ⊥)
     → AreDistinct (xs ++ ys)
 distinct_append [] ys d e apart = e
@@ -24,6 +26,7 @@ distinct_append (x ∷ xs) ys d e apart = (
   distinct_append xs ys d.1 e (λ z h k. apart z (inr h) k),
 )
 
+-- of the branches that pass a test
 pub named_once_filtered : (p : Branch → Bool) (branches : List Branch) → AreNamedOnce branches → AreNamedOnce (filter p branches)
 named_once_filtered p [] d = tt
 named_once_filtered p (b ∷ rest) d =
@@ -47,6 +50,7 @@ module _ {X : Type 0} (name : X → Option XidParts) where
   distinct_rest None xs d = d
   distinct_rest (Some x) xs d = d.1
 
+  -- of the names that are left of what passes one
   pub distinct_filtered : (p : X → Bool) (xs : List X) → AreDistinct (filter_map name xs) → AreDistinct (filter_map name (filter p xs))
   distinct_filtered p [] d = tt
   distinct_filtered p (x ∷ xs) d =

@@ -20,6 +20,7 @@ pub record IsPlayedFact (config : Config) (who : NodeId) (fact : Fact) : Type 0 
   pub before : List Fact
   pub played : plays config who before fact ≡ true
 
+-- each of facts that all play is one that plays
 pub each_played : (config : Config) (who : NodeId) (before facts : List Fact) → all_play config who before facts ≡ true
     → (fact : Fact) → IsIn facts fact → IsPlayedFact config who fact
 each_played config who before [] h fact k = absurd k

@@ -188,6 +188,7 @@ module _ (rm : ℕ) (facts : List Fact) (bound : Bound) (b : Branch) where
         keys = ap (λ (c : Branch). c.keys) (sym same);
       }
 
+-- a branch of all is prepared, or one that isn't yet
 pub prepared_or_not : (rm : ℕ) (facts : List Fact) (branches : List Branch) (b : Branch)
     → IsIn (all_branches rm (bound_branches facts) branches) b
     → IsPreparedAs rm facts b ⊎ IsIn branches b
@@ -236,6 +237,7 @@ module _ (config : Config) (rm : ℕ) (facts : List Fact) (branches : List Branc
   prepared_names [] = refl
   prepared_names (bound ∷ bs) = name_first bound.keys (xid_at bound.tx rm) _ (bound_names rm bs) (prepared_names bs)
 
+  -- no name has two branches
   pub names_held_once : AreNamedOnce (all_branches rm (bound_branches facts) branches)
   names_held_once =
       let prepared = filter_map (λ (bound : Bound). option_map (named_so bound.keys) (xid_at bound.tx rm)) (bound_branches facts) in

@@ -33,6 +33,7 @@ vote_passes : (facts : List Fact) (tx : TxParts) (v : Vote) → HasVote facts tx
 vote_passes facts tx votes.Prepared h = found_any (is_vote_of tx votes.Prepared) facts (stored.VotePrepared tx h.0) h.1 (tx_self tx)
 vote_passes facts tx votes.Aborted h = found_any (is_vote_of tx votes.Aborted) facts (stored.VoteAborted tx) h (tx_self tx)
 
+-- the test of votes decides whether a vote was cast
 pub casts_decides : (facts : List Fact) (tx : TxParts) (v : Vote) → Decides (list_any (is_vote_of tx v) facts) (HasVote facts tx v)
 casts_decides facts tx v = (
   λ h. let found = any_found (is_vote_of tx v) facts h in vote_same facts tx v found.element found.among found.passes,
@@ -109,6 +110,7 @@ pub vote_in_after_prepared : (facts : List Fact) (tx : TxParts) (keys : List Tou
 vote_in_after_prepared facts tx keys =
     vote_in_prepared (facts ++ stored.VotePrepared tx keys ∷ []) tx (keys, IsIn-last facts (stored.VotePrepared tx keys))
 
+-- after a vote to abort, where none to commit was cast, that is the vote
 pub vote_in_after_aborted : (facts : List Fact) (tx : TxParts) → ¬ HasVote facts tx votes.Prepared
     → vote_in (facts ++ stored.VoteAborted tx ∷ []) tx ≡ Some votes.Aborted
 vote_in_after_aborted facts tx none =
@@ -138,6 +140,7 @@ commits_decides facts tx = (
   λ h. found_any (is_commit_of tx) facts (stored.Committed tx) h (tx_self tx),
 )
 
+-- the test of aborts decides whether one is stored
 pub aborts_decides : (facts : List Fact) (tx : TxParts) → Decides (list_any (is_abort_of tx) facts) (IsIn facts (stored.Aborted tx))
 aborts_decides facts tx = (
   λ h. let found = any_found (is_abort_of tx) facts h in subst (IsIn facts) (aborted_same tx found.element found.passes) found.among,
@@ -155,6 +158,7 @@ pub record IsUnended (facts : List Fact) (tx : TxParts) : Type 0 where
   pub uncommitted : ¬ IsIn facts (stored.Committed tx)
   pub undropped : ¬ IsIn facts (stored.Aborted tx)
 
+-- what has not ended by the test has no end stored
 pub unended : (facts : List Fact) (tx : TxParts) → is_ended facts tx ≡ false → IsUnended facts tx
 unended facts tx e =
     let parts = or_parts (list_any (is_commit_of tx) facts) (list_any (is_abort_of tx) facts) e in
