@@ -21,7 +21,6 @@ use Rattle.protocol.specs.Nodes.{NodeState, Memory, Input, Asked, Received, Rece
 use Rattle.protocol.specs.Worlds.{World, Datagram, place, node_at, datagram_at, mark_at, with_mark, datagrams_of, if_found, answer_result}
 use Rattle.node_core.specs.declared.config.Sizes.{Sizes}
 use Rattle.node_core.specs.declared.output.Output.{Output}
-use Rattle.node_core.specs.Sends.{sent}
 use Rattle.node_core.specs.Nodes.{AreSizes, datagram_input}
 use Rattle.floors.specs.Worlds.{FlooredWorld, nothing_told}
 use Rattle.node_core.specs.Configs.{config_by}
@@ -61,11 +60,11 @@ module _ (config : Config) (world : FlooredWorld) (sizes : Sizes) (nodes : List 
   pub fits : (n : ℕ)
       → ((config : Config) → AreSizes config sizes → (facts : List Fact) (memory : Memory)
       → count config who (effect_of config who facts memory input).sends ≤ n)
-      → length (flat_map (datagrams_of (config_by sizes []) who) (sent out.sends)) ≤ n
+      → length (flat_map (datagrams_of (config_by sizes []) who) out.sends) ≤ n
   fits n bound = sends_few config world sizes nodes network notices s who at (sym is) input node new out by_place n bound
 
   pub handed_on : (after : NetworkParts) (answered : Answered)
-      → HaveSent network after (flat_map (datagrams_of (config_by sizes []) who) (sent out.sends))
+      → HaveSent network after (flat_map (datagrams_of (config_by sizes []) who) out.sends)
       → answered.answer ≡ out.reply → answered.now ≡ out.now
       → ReachesAs config world world.machine who input (cluster_of sizes nodes network notices)
       (cluster_of sizes (set nodes at new) after notices) answered
@@ -143,7 +142,7 @@ pub noise_handed : (config : Config) (world : FlooredWorld) (sizes : Sizes) (nod
     (cluster_of sizes (set nodes at new) network notices) answered
 noise_handed config world sizes nodes network notices s who at is bytes none node new out read steps answered answer_is now_is =
     let noise : Stepped ReceivedNoise node new out = subst (λ (i : Input). Stepped i node new out) (noise_input bytes none) steps in
-    let few : length (flat_map (datagrams_of (config_by sizes []) who) (sent out.sends)) ≤ 0 =
+    let few : length (flat_map (datagrams_of (config_by sizes []) who) out.sends) ≤ 0 =
     fits config world sizes nodes network notices s who at is ReceivedNoise node new out read noise 0
     (λ c are facts memory. noise_few c who facts memory) in
     handed_on config world sizes nodes network notices s who at is ReceivedNoise node new out read noise network answered
@@ -278,13 +277,13 @@ module _ (sizes : Sizes) (nodes : List FlooredParts) (network after : NetworkPar
   pub ask_room : (notices : NoticesParts) → IsSound (cluster_of sizes nodes network notices) → (n : ℕ)
       → ((config : Config) → AreSizes config sizes → (facts : List Fact) (memory : Memory)
       → count config who (on_request config who facts memory request).sends ≤ n)
-      → HasRoom n after → HasRoom (length (flat_map (datagrams_of (config_by sizes []) who) (sent out.sends))) after
+      → HasRoom n after → HasRoom (length (flat_map (datagrams_of (config_by sizes []) who) out.sends)) after
   ask_room notices sound n bound room =
-      room_less after (length (flat_map (datagrams_of (config_by sizes []) who) (sent out.sends))) n
+      room_less after (length (flat_map (datagrams_of (config_by sizes []) who) out.sends)) n
       (fits sound.config sound.world sizes nodes network notices sound.is who at is (Asked request) node new out read steps n bound) room
 
   pub ask_made : (final : NetworkParts) (answered : Answered)
-      → HaveSent after final (flat_map (datagrams_of (config_by sizes []) who) (sent out.sends))
+      → HaveSent after final (flat_map (datagrams_of (config_by sizes []) who) out.sends)
       → answered.answer ≡ out.reply → answered.now ≡ out.now
       → (notices : NoticesParts) (config : Config) (world : FlooredWorld)
       → ClusterStands config (cluster_of sizes nodes network notices) world
@@ -359,16 +358,16 @@ module _ (sizes : Sizes) (nodes : List FlooredParts) (network after marked : Net
         → count config first.receiver (effect_of config first.receiver facts memory (datagram_input bytes)).sends ≤ most)
         → marked.spare ≡ after.spare → marked.spare_bytes ≡ after.spare_bytes
         → HasRoom most after
-        → HasRoom (length (flat_map (datagrams_of (config_by sizes []) first.receiver) (sent out.sends))) marked
+        → HasRoom (length (flat_map (datagrams_of (config_by sizes []) first.receiver) out.sends)) marked
     deliver_room notices sound most bound spare bytes room =
-        room_less marked (length (flat_map (datagrams_of (config_by sizes []) first.receiver) (sent out.sends))) most
+        room_less marked (length (flat_map (datagrams_of (config_by sizes []) first.receiver) out.sends)) most
         (fits sound.config sound.world sizes nodes network notices sound.is first.receiver at is
         (datagram_input again.bytes) node new out read steps most
         (λ config are facts memory. bound config are facts memory again.bytes))
         (room_marked after marked most spare bytes room)
 
     pub deliver_made : (final : NetworkParts) (answered : Answered)
-        → HaveSent marked final (flat_map (datagrams_of (config_by sizes []) first.receiver) (sent out.sends))
+        → HaveSent marked final (flat_map (datagrams_of (config_by sizes []) first.receiver) out.sends)
         → answered.answer ≡ out.reply → answered.now ≡ out.now
         → (notices : NoticesParts) (config : Config) (world : FlooredWorld)
         → ClusterStands config (cluster_of sizes nodes network notices) world

@@ -26,7 +26,6 @@ use Rattle.protocol.specs.Worlds.{answer_result, with_mark}
 use Rattle.node_core.specs.declared.config.Sizes.{Sizes}
 use Rattle.node_core.specs.declared.output.Output.{Output}
 use Rattle.node_core.specs.Groups.{Place as At}
-use Rattle.node_core.specs.Sends.{sent}
 use Rattle.node_core.specs.Nodes.{AreSizes, Befalls}
 use Rattle.node_core.specs.Nodes.{datagram_input}
 use Rattle.node_core.proofs.Addressed.{datagrams_as}
@@ -220,10 +219,10 @@ module _ (config : Config) (world : FlooredWorld) (sizes : Sizes) (nodes : List 
   pub sends_few : (n : ℕ)
       → ((config : Config) → AreSizes config sizes → (facts : List Fact) (memory : Memory)
       → count config who (effect_of config who facts memory input).sends ≤ n)
-      → length (flat_map (datagrams_of (config_by sizes []) who) (sent out.sends)) ≤ n
+      → length (flat_map (datagrams_of (config_by sizes []) who) out.sends) ≤ n
   sends_few n bound =
       subst (λ (ds : List Datagram). length ds ≤ n)
-      (ap (flat_map (datagrams_of config who)) (sym shows.sends_are) ∙ sym (datagrams_as config sizes s.sizes_are who (sent out.sends)))
+      (ap (flat_map (datagrams_of config who)) (sym shows.sends_are) ∙ sym (datagrams_as config sizes s.sizes_are who out.sends))
       (step_few config who n floor state input does.fault (bound config s.sizes_are state.facts state.memory))
 
   befallen : (o : Option NodeState) → o ≡ Some state
@@ -236,13 +235,13 @@ module _ (config : Config) (world : FlooredWorld) (sizes : Sizes) (nodes : List 
       (subst (λ (a : NodeState). Befalls (floored_fact config who floor a input) old.node.held new.node.held does.fault) m_is befalls)
 
   pub reached : (after : NetworkParts) (answered : Answered)
-      → HaveSent network after (flat_map (datagrams_of (config_by sizes []) who) (sent out.sends))
+      → HaveSent network after (flat_map (datagrams_of (config_by sizes []) who) out.sends)
       → answered.answer ≡ out.reply → answered.now ≡ out.now
       → ReachesAs config world world.machine who input (cluster_of sizes nodes network notices)
       (cluster_of sizes (set nodes at new) after notices) answered
   reached after answered so answer_is now_is =
-      let datagrams : flat_map (datagrams_of (config_by sizes []) who) (sent out.sends) ≡ flat_map (datagrams_of config who) outcome.sends =
-      datagrams_as config sizes s.sizes_are who (sent out.sends) ∙ ap (flat_map (datagrams_of config who)) shows.sends_are in
+      let datagrams : flat_map (datagrams_of (config_by sizes []) who) out.sends ≡ flat_map (datagrams_of config who) outcome.sends =
+      datagrams_as config sizes s.sizes_are who out.sends ∙ ap (flat_map (datagrams_of config who)) shows.sends_are in
       let result : StepResult = outcome_result config world.machine who state.facts outcome in
       let comes : ComesTo config (cluster_of sizes (set nodes at new) after notices) answered (came_of world result) =
       record {

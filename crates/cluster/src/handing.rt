@@ -9,7 +9,6 @@ ghost use Rattle.protocol.specs.Nodes.{ReceivedNoise};
 ghost use Rattle.protocol.specs.Worlds.{datagrams_of};
 ghost use Rattle.node_core.specs.declared.config.Sizes.{Sizes as ClusterSizes};
 ghost use Rattle.node_core.specs.Opening.{restart_answer};
-ghost use Rattle.node_core.specs.Sends.{sent as sent_by};
 ghost use Rattle.floors.specs.Worlds.{is_manager as is_named_manager};
 ghost use Rattle.node_core.specs.Places.{node_count};
 ghost use Rattle.node_core.specs.Configs.{config_by};
@@ -97,8 +96,8 @@ fn put_out(
     out: &mut Output,
     answered: &mut Answered,
 )
-    requires { HasRoom (length (flat_map (datagrams_of (config_by sizes []) who) (sent_by out.old.sends))) network.old }
-    ensures sent { HaveSent network.old network.new (flat_map (datagrams_of (config_by sizes []) who) (sent_by out.old.sends)) }
+    requires { HasRoom (length (flat_map (datagrams_of (config_by sizes []) who) out.old.sends)) network.old }
+    ensures sent { HaveSent network.old network.new (flat_map (datagrams_of (config_by sizes []) who) out.old.sends) }
     ensures answer { answered.new.answer ≡ out.old.reply }
     ensures now { answered.new.now ≡ out.old.now }
 {

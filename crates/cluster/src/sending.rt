@@ -6,7 +6,6 @@ ghost use Rattle.wire.specs.declared.message.Kind.{Kind};
 ghost use Rattle.wire.specs.Grammar.{Spells};
 ghost use Rattle.protocol.specs.declared.nodes.NodeId.{NodeId as Id};
 ghost use Rattle.protocol.specs.Worlds.{Datagram, datagrams_of, datagram_to};
-ghost use Rattle.node_core.specs.Sends.{sent as sent_by};
 ghost use Rattle.network.specs.Networks.{StandsFor};
 ghost use Rattle.node_core.specs.Configs.{config_by};
 ghost use Rattle.cluster.specs.Sending.{HasRoom, HaveSent, KeepsRoom};
@@ -67,8 +66,8 @@ fn spell_and_send(network: &mut Network, sizes: Sizes, sender: NodeId, outgoing:
 /// Sends the messages of a node that aren't spelled yet, in their order, as `send_all` does.
 #[inline(never)]
 fn spell_and_send_all(network: &mut Network, sizes: Sizes, sender: NodeId, sends: &NodeSends)
-    requires { HasRoom (length (flat_map (datagrams_of (config_by sizes []) sender) (sent_by sends.now))) network.old }
-    ensures { HaveSent network.old network.new (flat_map (datagrams_of (config_by sizes []) sender) (sent_by sends.now)) }
+    requires { HasRoom (length (flat_map (datagrams_of (config_by sizes []) sender) sends.now)) network.old }
+    ensures { HaveSent network.old network.new (flat_map (datagrams_of (config_by sizes []) sender) sends.now) }
 {
     for k in 0..sends.count() {
         spell_and_send(network, sizes, sender, &sends.at(k));
@@ -77,8 +76,8 @@ fn spell_and_send_all(network: &mut Network, sizes: Sizes, sender: NodeId, sends
 
 /// Sends all messages that a node puts out, in their order. There is room for that, so it takes no memory.
 pub(crate) fn send_all(network: &mut Network, sizes: Sizes, sender: NodeId, sends: &NodeSends)
-    requires { HasRoom (length (flat_map (datagrams_of (config_by sizes []) sender) (sent_by sends.now))) network.old }
-    ensures { HaveSent network.old network.new (flat_map (datagrams_of (config_by sizes []) sender) (sent_by sends.now)) }
+    requires { HasRoom (length (flat_map (datagrams_of (config_by sizes []) sender) sends.now)) network.old }
+    ensures { HaveSent network.old network.new (flat_map (datagrams_of (config_by sizes []) sender) sends.now) }
 {
     if sends.count() == 0 {
         return;

@@ -13,7 +13,6 @@ use Rattle.protocol.specs.Worlds.{change_of}
 use Rattle.node_core.specs.declared.output.Output.{Output}
 use Rattle.node_core.specs.Groups.{Place as At}
 use Rattle.node_core.specs.Nodes.{Befalls, NodeParts, NodeStands, Steps, StepsAs, fact_to_store}
-use Rattle.node_core.specs.Sends.{sent}
 use Rattle.node_core.specs.Storing.{output_of}
 use Rattle.node_core.proofs.Changes.{unchanged}
 use Rattle.floors.specs.Nodes.{floored_node_step, forgotten_answer, is_input_below, is_passed_over}
@@ -101,7 +100,7 @@ module _ (from config : Config) (who : NodeId) (floor : Option Place) (few m : N
     output_alike : (out : Output) → CameAlike from config who floor few m little whole
         → out.reply ≡ (node_step from who few input fault).answer
         → out.now ≡ change_of who few.facts (node_step from who few input fault).node.facts
-        → sent out.sends ≡ (node_step from who few input fault).sends → IsOutput who m.facts out whole
+        → out.sends ≡ (node_step from who few input fault).sends → IsOutput who m.facts out whole
     output_alike out alike reply now sends = record {
       reply_is = reply ∙ ap (λ (o : Outcome). o.answer) (sym little_is) ∙ alike.answer_is;
       now_is = now ∙ ap (λ (o : Outcome). change_of who few.facts o.node.facts) (sym little_is) ∙ alike.change_is;
@@ -158,7 +157,7 @@ module _ (config : Config) (m : NodeState) (input : Input) (old : NodeParts) (s 
       subst (IsOutput old.who m.facts out) same (record {
         reply_is = ap (λ (o : Output). o.reply) is;
         now_is = ap (λ (o : Output). o.now) is ∙ sym (unchanged old.who m.facts);
-        sends_are = ap (λ (o : Output). sent o.sends) is;
+        sends_are = ap (λ (o : Output). o.sends) is;
       }) in
       let stays : FlooredStands config (with_floor old) (floored_node_step config old.who floor m input NoFault).node =
       subst (λ (o : Outcome). FlooredStands config (with_floor old) o.node) same s in

@@ -26,7 +26,6 @@ use Rattle.node_core.specs.Opening.{BefallsRestart, IsOpened, IsUnopened, restar
 use Rattle.node_core.specs.Compacting.{BefallsCompact}
 use Rattle.node_core.specs.Groups.{AppendsOnce, IsSameButKept, Place as At}
 use Rattle.node_core.specs.Raising.{HasCountedFault, RaisesAs}
-use Rattle.node_core.specs.Sends.{sent}
 use Rattle.node_core.specs.Sparing.{is_free}
 use Rattle.node_core.specs.Storing.{output_of}
 use Rattle.node_core.specs.Viewing.{IsUnread, SaysTable, SaysView}
@@ -94,7 +93,7 @@ floored_fact config who floor m input = if is_passed_over who floor m input then
 pub record IsOutput (who : NodeId) (before : List Fact) (out : Output) (outcome : Outcome) : Type 0 where
   pub reply_is : out.reply ≡ outcome.answer
   pub now_is : out.now ≡ change_of who before outcome.node.facts
-  pub sends_are : sent out.sends ≡ outcome.sends
+  pub sends_are : out.sends ≡ outcome.sends
 
 -- an input was handled as the machine's node with a floor handles it, under a fault that is true
 pub record FlooredDoes (config : Config) (who : NodeId) (floor : Option Place) (from : At) (input : Input) (out : Output) (to : At) : Type 0

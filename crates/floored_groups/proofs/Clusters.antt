@@ -26,7 +26,6 @@ use Rattle.forgetting.specs.Above.{StandsAbove}
 use Rattle.forgetting.proofs.Left.{stands_whole}
 use Rattle.node_core.specs.declared.output.Output.{Output}
 use Rattle.node_core.specs.Configs.{is_among}
-use Rattle.node_core.specs.Sends.{sent}
 use Rattle.node_core.specs.Nodes.{NodeStands}
 use Rattle.node_core.specs.Opening.{IsOpened}
 use Rattle.node_core.proofs.Restarting.{opened_empty}
@@ -335,7 +334,7 @@ stand_for config _ (TookOne all who item new out run among can takes) =
     let f = stand_for config all run in
     let t = taken_alone config f.world f.reached who item (all.members who) new out (f.stand who among)
     (can_one config f.world all who item f.net_is f.notices_are can) takes in
-    stand_on config all (all_replies config all run) f who new (sent out.sends) [] (t.happened ∷ [])
+    stand_on config all (all_replies config all run) f who new out.sends [] (t.happened ∷ [])
     (record { who = who; item = item; answer = out.reply } ∷ []) t.goes_on
     (alone_replied f.world.notices who item out.reply t.happened t.answered)
 stand_for config _ (Raised all rm place new result run among raises) =

@@ -9,7 +9,6 @@ use Rattle.protocol.specs.Effects.{Config}
 use Rattle.protocol.specs.Nodes.{NodeState, Input, Outcome}
 use Rattle.node_core.specs.declared.output.Output.{Output}
 use Rattle.node_core.specs.Groups.{Place as At}
-use Rattle.node_core.specs.Sends.{sent}
 use Rattle.groups.specs.Runs.{Handed}
 use Rattle.floors.specs.Nodes.{floored_node_step}
 use Rattle.floored.specs.Nodes.{FlooredRuns}
@@ -51,7 +50,7 @@ module _ (config : Config) (who : NodeId) (floor : Option Place) where
         sends_are =
             ap (λ (sends : List Outgoing). sends ++ floored_sends_after config who floor outcome.node r.group)
             (sym does.output_is.sends_are)
-            ∙ ap (λ (sends : List Outgoing). sent out.sends ++ sends)
+            ∙ ap (λ (sends : List Outgoing). out.sends ++ sends)
             (ap (λ (n : NodeState). floored_sends_after config who floor n r.group) (sym does.state_is) ∙ r.sends_are);
         happened_is =
             ap (λ (a : _). Took who input a ∷ taken_in config who floor outcome.node r.group) (sym does.output_is.reply_is)

@@ -20,7 +20,6 @@ use Rattle.protocol.specs.Worlds.{node_at}
 use Rattle.safety.proofs.World.NodePlaces.{node_there, node_elsewhere}
 use Rattle.node_core.specs.declared.output.Output.{Output}
 use Rattle.node_core.specs.Opening.{restart_answer}
-use Rattle.node_core.specs.Sends.{sent}
 use Rattle.node_core.specs.Storing.{output_of}
 use Rattle.floors.specs.Nodes.{Rise, kept_rise, on_least}
 use Rattle.floors.specs.Worlds.{FlooredWorld, FlooredResult, Hear, floored_answer, floored_dispatch, floored_if_found}
@@ -145,9 +144,9 @@ module _ (config : Config) (world : FlooredWorld) (who : NodeId) (old new : Memb
 -- what came of a notice that a process heard
 pub record HasTaken (config : Config) (world : FlooredWorld) (reach : IsFlooredReached config world) (who : NodeId)
     (old new : MemberParts) (out : Output) (happened : FlooredHappening) : Type 0 where
-  pub goes_on : GoesOn config world reach who new (sent out.sends) [] (happened ∷ [])
+  pub goes_on : GoesOn config world reach who new out.sends [] (happened ∷ [])
   pub risen : is_lower new.floored.floor old.floored.floor ≡ false
-  pub silent : sent out.sends ≡ []
+  pub silent : out.sends ≡ []
 
 module _ (config : Config) (world : FlooredWorld) (reach : IsFlooredReached config world) (who : NodeId) (old new : MemberParts)
     (s : StandsIn config world who old) (notice : Heard) (n : ℕ) (there : slice_get world.notices n ≡ Some (notice_to who notice))
@@ -181,10 +180,10 @@ module _ (config : Config) (world : FlooredWorld) (reach : IsFlooredReached conf
       ∙ cond-false m.up (heard_up NoFault) (floored_answer world (Refused refusals.Down)) down) new
       (subst (StandsIn config world who) (sym same) s) (others_same config who world) refl [] (sym (append-nil world.notices)) in
       record {
-        goes_on = subst (λ (o : Output). GoesOn config world reach who new (sent o.sends) [] (Underwent (Hear n) o.reply ∷ [])) (sym is) g;
+        goes_on = subst (λ (o : Output). GoesOn config world reach who new o.sends [] (Underwent (Hear n) o.reply ∷ [])) (sym is) g;
         risen =
             subst (λ (x : MemberParts). is_lower x.floored.floor old.floored.floor ≡ false) (sym same) (not_lower_self old.floored.floor);
-        silent = ap (λ (o : Output). sent o.sends) is;
+        silent = ap (λ (o : Output). o.sends) is;
       }
 
   module _ (up : m.up ≡ true) (h : HearsUp config m notice old new out) where
@@ -225,14 +224,14 @@ module _ (config : Config) (world : FlooredWorld) (reach : IsFlooredReached conf
         (sym (append-nil world.notices)) in
         record {
           goes_on =
-              subst (λ (o : Output). GoesOn config world reach who new (sent o.sends) [] (Underwent (Hear n) o.reply ∷ [])) (sym h.out_is)
+              subst (λ (o : Output). GoesOn config world reach who new o.sends [] (Underwent (Hear n) o.reply ∷ [])) (sym h.out_is)
               (subst (λ (a : _). GoesOn config world reach who new [] [] (Underwent (Hear n) a ∷ [])) (sym r.answer_is) g);
           risen =
               subst (λ (f : Option Place). is_lower new.floored.floor f ≡ false) (sym s.floor_is)
               (subst (λ (f : Option Place). is_lower f (world.floor who) ≡ false) (sym r.floor_is)
               (not_sunk (world.floor who) m (λ p. least_told config told ≡ Some p) rise
               (least_rise (world.floor who) m (least_told config told) r.fault)));
-          silent = ap (λ (o : Output). sent o.sends) h.out_is;
+          silent = ap (λ (o : Output). o.sends) h.out_is;
         }
 
   -- what a process hears its node hears

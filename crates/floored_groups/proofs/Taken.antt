@@ -22,7 +22,6 @@ use Rattle.protocol.proofs.Lists.{IsIn-before}
 use Rattle.node_core.specs.declared.output.Output.{Output}
 use Rattle.node_core.specs.Groups.{Place as At}
 use Rattle.node_core.specs.Nodes.{IsSameNode}
-use Rattle.node_core.specs.Sends.{sent}
 use Rattle.node_core.specs.Storing.{output_of}
 use Rattle.groups.specs.Runs.{Handed, CanBeHanded}
 use Rattle.floors.specs.Nodes.{floored_node_step, is_input_below}
@@ -88,9 +87,9 @@ record HasDone (config : Config) (world : FlooredWorld) (reach : IsFlooredReache
     (item : Item) (old new : MemberParts) (out : Output) : Type 0 where
   pub happened : FlooredHappening
   pub answered : IsAnswered notices who item out.reply happened
-  pub goes_on : GoesOn config world reach who new (sent out.sends) [] (happened ∷ [])
+  pub goes_on : GoesOn config world reach who new out.sends [] (happened ∷ [])
   pub risen : is_lower new.floored.floor old.floored.floor ≡ false
-  pub silent : (floor : Option Place) → is_lower old.floored.floor floor ≡ false → is_aside floor item ≡ true → sent out.sends ≡ []
+  pub silent : (floor : Option Place) → is_lower old.floored.floor floor ≡ false → is_aside floor item ≡ true → out.sends ≡ []
 
 module _ (config : Config) (world : FlooredWorld) (reach : IsFlooredReached config world) (who : NodeId) (notices : List Notice)
     (old new : MemberParts) (s : StandsIn config world who old) (out : Output) where
@@ -111,7 +110,7 @@ module _ (config : Config) (world : FlooredWorld) (reach : IsFlooredReached conf
         happened = Took who input out.reply;
         answered = refl;
         goes_on =
-            goes_as config who world reach new (outcome.sends ++ []) (sent out.sends) [] [] (taken_in config who (world.floor who) m group)
+            goes_as config who world reach new (outcome.sends ++ []) out.sends [] [] (taken_in config who (world.floor who) m group)
             (Took who input out.reply ∷ []) (append-nil outcome.sends ∙ sym does.output_is.sends_are) refl
             (ap (λ (a : Answer). Took who input a ∷ []) (sym does.output_is.reply_is))
             (goes_group config world reach who old new s group (can, tt) true
@@ -157,7 +156,7 @@ marked_of marks outs = []
 
 -- those that are marked send nothing
 abbrev AreSilent : (marks : List Bool) → List Output → Type 0
-AreSilent (true ∷ marks) (out ∷ outs) = (sent out.sends ≡ []) × AreSilent marks outs
+AreSilent (true ∷ marks) (out ∷ outs) = (out.sends ≡ []) × AreSilent marks outs
 AreSilent (false ∷ marks) (out ∷ outs) = AreSilent marks outs
 AreSilent marks outs = Unit {0}
 
@@ -200,14 +199,14 @@ module _ (config : Config) (who : NodeId) (notices : List Notice) where
       let g = d.goes_on in
       let later : AllByRecursion (CanBeGiven g.after.machine.net notices who) items =
       subst (λ (net : List Datagram). AllByRecursion (CanBeGiven net notices who) items) (sym g.net_is)
-      (all_later world.machine.net (flat_map (datagrams_of config who) (sent out.sends)) notices who items can.1) in
+      (all_later world.machine.net (flat_map (datagrams_of config who) out.sends) notices who items can.1) in
       let r = done_all g.after g.reached marks items next new before after g.stands later
       (g.notices_are ∙ append-nil world.notices ∙ same) rest in
       record {
         happened = d.happened ∷ r.happened;
         answered = (d.answered, r.answered);
         goes_on =
-            goes_then config who world reach next new (sent out.sends) (sent_of (marked_of marks after)) [] [] (d.happened ∷ []) r.happened
+            goes_then config who world reach next new out.sends (sent_of (marked_of marks after)) [] [] (d.happened ∷ []) r.happened
             g r.goes_on;
         silent = λ floor high is. (
           d.silent floor high (sym (heads true (is_aside floor item) marks (map (is_aside floor) items) is)),
@@ -249,7 +248,7 @@ put_silent [] [] [] old new put = refl
 put_silent (true ∷ marks) (was ∷ before) (out ∷ after) old new put =
     λ i. (old.0 ∙ sym new.0) i ++ put_silent marks before after old.1 new.1 put i
 put_silent (false ∷ marks) (was ∷ before) (out ∷ after) old new put =
-    λ i. sent (sym put.0 i).sends ++ put_silent marks before after old new put.1 i
+    λ i. (sym put.0 i).sends ++ put_silent marks before after old new put.1 i
 put_silent [] [] (out ∷ after) old new put = absurd put
 put_silent [] (was ∷ before) after old new put = absurd put
 put_silent (true ∷ marks) [] after old new put = absurd put
@@ -266,7 +265,7 @@ all_marked [] (was ∷ before) after put = absurd put
 all_marked (item ∷ items) [] after put = absurd put
 all_marked (item ∷ items) (was ∷ before) [] put = absurd put
 
-silent_cons : (t : Bool) (marks : List Bool) (out : Output) (outs : List Output) → (t ≡ true → sent out.sends ≡ []) → AreSilent marks outs
+silent_cons : (t : Bool) (marks : List Bool) (out : Output) (outs : List Output) → (t ≡ true → out.sends ≡ []) → AreSilent marks outs
     → AreSilent (t ∷ marks) (out ∷ outs)
 silent_cons true marks out outs first rest = (first refl, rest)
 silent_cons false marks out outs first rest = rest

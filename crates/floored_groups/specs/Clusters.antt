@@ -21,7 +21,6 @@ use Rattle.protocol.specs.Worlds.{Datagram, datagrams_of}
 use Rattle.answers.specs.Answers.{IsQuestion}
 use Rattle.node_core.specs.declared.output.Output.{Output}
 use Rattle.node_core.specs.Configs.{is_among}
-use Rattle.node_core.specs.Sends.{sent}
 use Rattle.floors.specs.Worlds.{FlooredWorld, Hear, Notice, with_entry}
 use Rattle.floored.specs.Nodes.{IsFlooredOpened}
 use Rattle.port.specs.Members.{Acts, CompactsMember, Hears, Item, MemberParts, RaisesMember, RestartsMember, Takes, TakesAll}
@@ -68,7 +67,7 @@ pub data IsRun (config : Config) : AllProcesses → Type 0 where
       → TakesAll items (all.members who) new before after (Err error) → IsRun config (after_step all who new [] [])
   TookOne : (all : AllProcesses) (who : NodeId) (item : Item) (new : MemberParts) (out : Output) → IsRun config all
       → is_among config who ≡ true → CanBeGiven all.net all.notices who item → Takes item (all.members who) new out
-      → IsRun config (after_step all who new (flat_map (datagrams_of config who) (sent out.sends)) [])
+      → IsRun config (after_step all who new (flat_map (datagrams_of config who) out.sends) [])
   Raised : (all : AllProcesses) (rm : ℕ) (place : Place) (new : MemberParts) (result : Result (Unit {0}) Refusal) → IsRun config all
       → is_among config (R rm) ≡ true → RaisesMember place (all.members (R rm)) new result
       → IsRun config (after_step all (R rm) new [] (told_by config rm new result))

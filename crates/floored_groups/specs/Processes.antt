@@ -23,7 +23,6 @@ use Rattle.protocol.specs.Nodes.{NodeState, Input, Received, ReceivedNoise}
 use Rattle.protocol.specs.Worlds.{Datagram, node_at, datagrams_of}
 use Rattle.node_core.specs.declared.output.Output.{Output}
 use Rattle.node_core.specs.Nodes.{HasRows}
-use Rattle.node_core.specs.Sends.{sent}
 use Rattle.node_core.specs.Storing.{output_of}
 use Rattle.floors.specs.Worlds.{FlooredWorld, Notice, Hear, is_manager, notices_of}
 use Rattle.floored.specs.Nodes.{FlooredStands, FlooredTables, FlooredViews, IsFlooredOpened}
@@ -122,7 +121,7 @@ AreAllAnswered notices who old items outs happened =
 
 -- what a process puts out to be sent, in order
 abbrev pub sent_of : List Output → List Outgoing
-sent_of outs = flat_map (λ (out : Output). sent out.sends) outs
+sent_of outs = flat_map (λ (out : Output). out.sends) outs
 
 -- it took all that it was handed: each was answered as the machine with floors answers it, and what it puts out is sent
 pub record IsTaken (config : Config) (world : FlooredWorld) (reach : IsFlooredReached config world) (who : NodeId) (items : List Item)
@@ -136,7 +135,7 @@ pub record IsTakenAlone (config : Config) (world : FlooredWorld) (reach : IsFloo
     (new : MemberParts) (out : Output) : Type 0 where
   pub happened : FlooredHappening
   pub answered : IsAnswered world.notices who item out.reply happened
-  pub goes_on : GoesOn config world reach who new (sent out.sends) [] (happened ∷ [])
+  pub goes_on : GoesOn config world reach who new out.sends [] (happened ∷ [])
 
 -- its append was stopped, or memory was refused for it: it is down, each is refused, and nothing is sent
 pub record IsStopped (config : Config) (world : FlooredWorld) (reach : IsFlooredReached config world) (who : NodeId) (items : List Item)

@@ -13,7 +13,6 @@ use Rattle.protocol.specs.Nodes.{NodeState, Input, node_step}
 use Rattle.node_core.specs.declared.output.Output.{Output}
 use Rattle.node_core.specs.Groups.{Place, Runs, GroupsAs}
 use Rattle.node_core.specs.Nodes.{AreSizes, IsSameNode, NodeParts, NodeStands, Stands}
-use Rattle.node_core.specs.Sends.{sent}
 use Rattle.node_core.specs.Storing.{output_of}
 use Rattle.node_core.proofs.Grouped.{kept_stands, runs_stand}
 use Rattle.groups.specs.Runs.{Handed, node_after, sends_after, handled_in, Handled}
@@ -26,7 +25,7 @@ module _ (config : Config) (who : NodeId) (own : List Row) where
     pub inputs_are : inputs ≡ map (λ (h : Handed). h.input) group
     pub state_is : to.state ≡ node_after config who from.state group
     pub shown : AreShown config who from.state group outs
-    pub sends_are : flat_map (λ (out : Output). sent out.sends) outs ≡ sends_after config who from.state group
+    pub sends_are : flat_map (λ (out : Output). out.sends) outs ≡ sends_after config who from.state group
 
   are_handled : (from to : Place) (inputs : List Input) (outs : List Output) → Runs config who own from inputs outs to
       → AreHandled from inputs outs to
@@ -70,7 +69,7 @@ module _ (config : Config) (who : NodeId) (own : List Row) where
   replies_are node (first ∷ rest) [] shown = absurd shown
 
   nothing_sent : (refusal : Refusal) (inputs : List Input)
-      → flat_map (λ (out : Output). sent out.sends) (map (λ (input : Input). output_of (Refused refusal) None) inputs) ≡ []
+      → flat_map (λ (out : Output). out.sends) (map (λ (input : Input). output_of (Refused refusal) None) inputs) ≡ []
   nothing_sent refusal [] = refl
   nothing_sent refusal (input ∷ inputs) = nothing_sent refusal inputs
 
@@ -139,6 +138,6 @@ are_groups config m inputs old new outs (Err error) s g =
           (subst (Stands config old.who old.rows new.held new.role) same stands);
       told = g.comes.outs_are;
       sends_are =
-          ap (flat_map (λ (out : Output). sent out.sends)) g.comes.outs_are
+          ap (flat_map (λ (out : Output). out.sends)) g.comes.outs_are
           ∙ nothing_sent config old.who old.rows (refusal_of error) inputs;
     }

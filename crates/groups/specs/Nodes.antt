@@ -11,7 +11,6 @@ use Rattle.protocol.specs.Nodes.{NodeState, Input, Outcome, node_step}
 use Rattle.protocol.specs.Worlds.{change_of}
 use Rattle.node_core.specs.declared.output.Output.{Output}
 use Rattle.node_core.specs.Nodes.{NodeParts, NodeStands}
-use Rattle.node_core.specs.Sends.{sent}
 use Rattle.node_core.specs.Storing.{output_of}
 use Rattle.groups.specs.Runs.{Handed, node_after, sends_after, handled_in, Happening, Handled}
 
@@ -24,7 +23,7 @@ AllHandled behind (Err error) = Unit {0}
 pub record IsShown (who : NodeId) (before : List Fact) (outcome : Outcome) (out : Output) : Type 0 where
   pub reply_is : out.reply ≡ outcome.answer
   pub now_is : out.now ≡ change_of who before outcome.node.facts
-  pub sends_are : sent out.sends ≡ outcome.sends
+  pub sends_are : out.sends ≡ outcome.sends
 
 -- outputs are what the machine's node makes of the inputs of a group, one by one
 abbrev pub AreShown : Config → NodeId → NodeState → List Handed → List Output → Type 0
@@ -59,4 +58,4 @@ pub record IsGroup (config : Config) (m : NodeState) (inputs : List Input) (old 
   pub all : AllHandled behind result
   pub stands : NodeStands config new (node_after config old.who m group)
   pub told : AreTold config old.who m group inputs outs result
-  pub sends_are : flat_map (λ (out : Output). sent out.sends) outs ≡ (if is_ok result then sends_after config old.who m group else [])
+  pub sends_are : flat_map (λ (out : Output). out.sends) outs ≡ (if is_ok result then sends_after config old.who m group else [])

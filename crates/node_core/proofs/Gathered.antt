@@ -20,7 +20,6 @@ use Rattle.protocol.specs.Effects.{Config, Effect}
 use Rattle.protocol.specs.Nodes.{NodeState, Memory, Input, plays, accepts_input, effect_of, node_step}
 use Rattle.node_core.specs.declared.output.Output.{Output}
 use Rattle.node_core.specs.declared.role.Role.{Role}
-use Rattle.node_core.specs.Sends.{sent}
 use Rattle.node_core.specs.Storing.{fact_frame, output_of, change_made, IsKept, Carries, carried, WasStopped}
 use Rattle.node_core.specs.Nodes.{Stands, Steps, StepsFreely, AreSizes, fact_to_store}
 use Rattle.node_core.specs.Sparing.{is_free}
@@ -347,7 +346,7 @@ module _ (config : Config) (who : NodeId) (own : List Row) (m : NodeState) (inpu
       pub leaves : Leaves config who own m input held after text
 
     done_again : (old new : Held) (now : Role) (out : Output) → old.armed ≡ None → out.reply ≡ the_effect.answer
-        → sent out.sends ≡ the_effect.sends → (f : Option Fact) → the_effect.fact ≡ f
+        → out.sends ≡ the_effect.sends → (f : Option Fact) → the_effect.fact ≡ f
         → IsKept config who m.facts the_effect old new now out.now f → Again old new now (Ok out)
     done_again old new now out untorn reply sends None is k = record {
       text = [];

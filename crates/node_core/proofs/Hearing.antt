@@ -20,7 +20,6 @@ use Rattle.protocol.specs.Nodes.{is_message_inside}
 use Rattle.protocol.specs.Nodes.{on_message}
 use Rattle.node_core.specs.declared.output.Output.{Output}
 use Rattle.node_core.specs.declared.role.Role.{Role}
-use Rattle.node_core.specs.Sends.{sent}
 use Rattle.node_core.specs.Roles.{RoleStands, IsDecided, IsLeft, decided}
 use Rattle.node_core.specs.Storing.{IsDone, IsKept, Carries, output_of}
 use Rattle.node_core.specs.Nodes.{datagram_input}
@@ -66,7 +65,7 @@ module _ (config : Config) (who : NodeId) (facts : List Fact) (memory : Memory) 
       → RoleStands config who role facts memory → IsDone config who facts e held held role out
   answered e answer out e_is is s = subst (λ x. IsDone config who facts x held held role out) (sym e_is) (record {
     reply_is = ap (λ (o : Output). o.reply) is;
-    sends_are = ap (λ (o : Output). sent o.sends) is;
+    sends_are = ap (λ (o : Output). o.sends) is;
     kept = record { same = refl; now_is = ap (λ (o : Output). o.now) is; stands = s };
   })
 
@@ -99,7 +98,7 @@ module _ (config : Config) (who : NodeId) (facts : List Fact) (memory : Memory) 
       → new ≡ record { reply = out.reply; now = None; sends = out.sends } → IsDone config who facts e held held role new
   nothing_stored e fact out new none is new_is = record {
     reply_is = ap (λ (o : Output). o.reply) new_is ∙ ap (λ (d : Decision). d.answer) is.effect_is;
-    sends_are = ap (λ (o : Output). sent o.sends) new_is ∙ ap (λ (d : Decision). d.sends) is.effect_is;
+    sends_are = ap (λ (o : Output). o.sends) new_is ∙ ap (λ (d : Decision). d.sends) is.effect_is;
     kept = subst (λ o. IsKept config who facts e held held role new.now o) (sym none) (record {
       same = refl;
       now_is = ap (λ (o : Output). o.now) new_is;

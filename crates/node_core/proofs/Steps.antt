@@ -34,7 +34,6 @@ use Rattle.protocol.specs.Nodes.{all_play, node_step, effect_outcome, answer_out
 use Rattle.protocol.proofs.Manager.Played.{all_play_then}
 use Rattle.node_core.specs.declared.output.Output.{Output}
 use Rattle.node_core.specs.declared.role.Role.{Role}
-use Rattle.node_core.specs.Sends.{sent}
 use Rattle.node_core.specs.Roles.{RoleStands}
 use Rattle.node_core.specs.Shorter.{shorter_record}
 use Rattle.node_core.specs.Storing.{fact_frame, output_of, change_made, IsTorn, IsKept, IsDone, RanOut, WasStopped, Carries, carried}
@@ -160,7 +159,7 @@ module _ (config : Config) (who : NodeId) (own : List Row) (m : NodeState) (e : 
     pub befalls : Befalls f old new fault
     pub shows : Shows config who own m.facts new after out (effect_outcome m e f m.tear fault)
 
-  done_comes : (now : Role) (out : Output) → out.reply ≡ e.answer → sent out.sends ≡ e.sends → (f : Option Fact)
+  done_comes : (now : Role) (out : Output) → out.reply ≡ e.answer → out.sends ≡ e.sends → (f : Option Fact)
       → IsKept config who m.facts e old new now out.now f → Comes (Some now) out f
   done_comes now out reply sends None is = record {
     fault = NoFault;
@@ -206,7 +205,7 @@ module _ (config : Config) (who : NodeId) (own : List Row) (m : NodeState) (e : 
     shows = record {
       reply_is = ap (λ (o : Output). o.reply) is.out_is;
       now_is = ap (λ (o : Output). o.now) is.out_is ∙ sym (unchanged who m.facts);
-      sends_are = ap (λ (o : Output). sent o.sends) is.out_is;
+      sends_are = ap (λ (o : Output). o.sends) is.out_is;
       stands = record {
         tail = [];
         keeps = subst (λ (h : Held). Keeps config who own h.bytes m.facts []) (sym is.same) keeps_all;
@@ -225,7 +224,7 @@ module _ (config : Config) (who : NodeId) (own : List Row) (m : NodeState) (e : 
       record {
         reply_is = ap (λ (o : Output). o.reply) is;
         now_is = ap (λ (o : Output). o.now) is ∙ sym (changes_made config who role m.facts m.memory fact s.role_is.2 fits);
-        sends_are = ap (λ (o : Output). sent o.sends) is;
+        sends_are = ap (λ (o : Output). o.sends) is;
         stands = record {
           tail = kept.0;
           keeps = kept.1;
@@ -239,7 +238,7 @@ module _ (config : Config) (who : NodeId) (own : List Row) (m : NodeState) (e : 
       record {
         reply_is = ap (λ (o : Output). o.reply) is;
         now_is = ap (λ (o : Output). o.now) is ∙ sym (unchanged who m.facts);
-        sends_are = ap (λ (o : Output). sent o.sends) is;
+        sends_are = ap (λ (o : Output). o.sends) is;
         stands = record {
           tail = kept.0;
           keeps = kept.1;
@@ -312,7 +311,7 @@ module _ (config : Config) (who : NodeId) (own : List Row) (m : NodeState) (inpu
     shows = subst (Shows config who own m.facts held role out) (sym same) (record {
       reply_is = ap (λ (o : Output). o.reply) is;
       now_is = ap (λ (o : Output). o.now) is ∙ sym (unchanged who m.facts);
-      sends_are = ap (λ (o : Output). sent o.sends) is;
+      sends_are = ap (λ (o : Output). o.sends) is;
       stands = s;
     });
   }

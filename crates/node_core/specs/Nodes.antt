@@ -25,7 +25,6 @@ use Rattle.node_core.specs.declared.output.Output.{Output}
 use Rattle.node_core.specs.declared.role.Role.{Role}
 use Rattle.resource_manager.specs.Compacted.{IsCompacted, beginning_with}
 use Rattle.branch_table.specs.TableStates.{are_rows}
-use Rattle.node_core.specs.Sends.{sent}
 use Rattle.node_core.specs.Roles.{RoleStands}
 use Rattle.node_core.specs.Shorter.{shorter_record}
 use Rattle.node_core.specs.Storing.{fact_frame, IsTorn}
@@ -129,7 +128,7 @@ pub record Shows (config : Config) (who : NodeId) (own : List Row) (before : Lis
     (outcome : Outcome) : Type 0 where
   pub reply_is : out.reply ≡ outcome.answer
   pub now_is : out.now ≡ change_of who before outcome.node.facts
-  pub sends_are : sent out.sends ≡ outcome.sends
+  pub sends_are : out.sends ≡ outcome.sends
   pub stands : Stands config who own new role outcome.node
 
 -- an input was handled as the machine handles it under a fault that is true

@@ -10,10 +10,6 @@ use Rattle.protocol.specs.declared.answers.Answer.{Answer}
 use Rattle.protocol.specs.declared.decisions.Outgoing.{Outgoing}
 use Rattle.leader.specs.declared.decision.LeaderDecision.{LeaderDecision}
 
--- the messages, in order
-abbrev pub sent : List Outgoing → List Outgoing
-sent all = all
-
 -- what a leader decided, whose parts stand apart; or a refusal
 abbrev pub led : Answer → Option Fact → List Outgoing → Result (Unit {0}) Refusal → Result LeaderDecision Refusal
 led answer fact sends (Ok done) = Ok (record { answer = answer; fact = fact; sends = sends })

@@ -21,7 +21,6 @@ use Rattle.node_core.specs.declared.output.Output.{Output}
 use Rattle.node_core.specs.declared.role.Role.{Role}
 use Rattle.node_core.specs.declared.storing.Stopped.{Stopped}
 use Rattle.node_core.specs.declared.storing.Stopped.TheVariants as stops
-use Rattle.node_core.specs.Sends.{sent}
 use Rattle.node_core.specs.Roles.{RoleStands}
 
 -- a fact's frame as it is written
@@ -81,7 +80,7 @@ IsKept config who facts e old new role now (Some fact) = IsStoredAs config who f
 pub record IsDone (config : Config) (who : NodeId) (facts : List Fact) (e : Effect Memory) (old new : Held) (role : Role)
     (out : Output) : Type 0 where
   pub reply_is : out.reply ≡ e.answer
-  pub sends_are : sent out.sends ≡ e.sends
+  pub sends_are : out.sends ≡ e.sends
   pub kept : IsKept config who facts e old new role out.now e.fact
 
 -- memory ran out: the record is as it was

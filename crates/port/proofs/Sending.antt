@@ -17,7 +17,6 @@ use Rattle.node_core.specs.Nodes.{AreSizes}
 use Rattle.protocol.specs.declared.answers.Answer.TheVariants.{Refused}
 use Rattle.protocol.specs.Nodes.{Input}
 use Rattle.node_core.specs.declared.output.Output.{Output}
-use Rattle.node_core.specs.Sends.{sent}
 use Rattle.node_core.proofs.Addressed.{datagrams_as}
 use Rattle.node_core.specs.Storing.{output_of}
 use Rattle.port.specs.Calls.{Sending, SendsAll, SendsTo, TellsAll, datagrams_from}
@@ -85,7 +84,7 @@ pub all_datagrams_as : (config : Config) (sizes : Sizes) → AreSizes config siz
     → flat_map (datagrams_from (config_by sizes []) who) outs ≡ flat_map (datagrams_from config who) outs
 all_datagrams_as config sizes are who [] = refl
 all_datagrams_as config sizes are who (out ∷ outs) =
-    λ i. datagrams_as config sizes are who (sent out.sends) i ++ all_datagrams_as config sizes are who outs i
+    λ i. datagrams_as config sizes are who out.sends i ++ all_datagrams_as config sizes are who outs i
 
 -- nothing came of inputs that were refused
 pub nothing_from : (config : Config) (who : NodeId) (refusal : Refusal) (inputs : List Input)

@@ -13,7 +13,6 @@ use Rattle.protocol.specs.Nodes.{NodeState}
 use Rattle.protocol.specs.Worlds.{Datagram, datagrams_of}
 use Rattle.node_core.specs.declared.output.Output.{Output}
 use Rattle.node_core.specs.Opening.{restart_answer}
-use Rattle.node_core.specs.Sends.{sent}
 use Rattle.floors.specs.Worlds.{Notice, is_done, notices_of}
 use Rattle.floored.specs.Nodes.{FlooredStands}
 use Rattle.port.specs.declared.calling.Served.{Served}
@@ -58,7 +57,7 @@ pub record CallsAs {P : Type 0} (Sent : Sending P) (config : Config) (m : NodeSt
   pub takes : TakesAs config m item old new out
   pub reply_is : served.reply ≡ out.reply
   pub now_is : served.now ≡ out.now
-  pub sends : SendsAll Sent before after (flat_map (datagrams_of config old.floored.node.who) (sent out.sends))
+  pub sends : SendsAll Sent before after (flat_map (datagrams_of config old.floored.node.who) out.sends)
 
 -- whatever node of the machine it stood for
 abbrev pub Calls : {P : Type 0} → Sending P → Item → (old new : MemberParts) → (before after : P) → Served → Type 0
@@ -67,7 +66,7 @@ Calls Sent item old new before after served =
 
 -- the datagrams that came of an input
 abbrev pub datagrams_from : Config → NodeId → Output → List Datagram
-datagrams_from config who out = flat_map (datagrams_of config who) (sent out.sends)
+datagrams_from config who out = flat_map (datagrams_of config who) out.sends
 
 -- a way in which receives change a port
 abbrev pub Receiving : Type 0 → Type 1

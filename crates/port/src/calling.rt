@@ -9,7 +9,6 @@ ghost use Rattle.protocol.specs.Effects.{Config};
 ghost use Rattle.protocol.specs.Nodes.{NodeState};
 ghost use Rattle.protocol.specs.Worlds.{datagrams_of};
 ghost use Rattle.node_core.specs.Configs.{config_by};
-ghost use Rattle.node_core.specs.Sends.{sent as sent_by};
 ghost use Rattle.floors.specs.Worlds.{notices_of};
 ghost use Rattle.floored.specs.Nodes.{FlooredStands};
 ghost use Rattle.port.specs.Members.{TakesAll, item_of};
@@ -78,7 +77,7 @@ fn send_to_acceptors<P: Port>(port: &mut P, acceptors: u8, bytes: &[u8])
 /// Sends the messages of a node that aren't spelled yet, in their order, as `send_all` does.
 fn spell_and_send_all<P: Port>(port: &mut P, sizes: Sizes, sends: &NodeSends)
     ensures { (sender : Sender) → SendsAll P.sent port.old port.new
-        (flat_map (datagrams_of (config_by sizes []) sender) (sent_by sends.now)) }
+        (flat_map (datagrams_of (config_by sizes []) sender) sends.now) }
 {
     for k in 0..sends.count() {
         spell_and_send(port, sizes, &sends.at(k));
@@ -88,7 +87,7 @@ fn spell_and_send_all<P: Port>(port: &mut P, sizes: Sizes, sends: &NodeSends)
 /// Sends all messages that a node puts out, in their order.
 fn send_all<P: Port>(port: &mut P, sizes: Sizes, sends: &NodeSends)
     ensures { (sender : Sender) → SendsAll P.sent port.old port.new
-        (flat_map (datagrams_of (config_by sizes []) sender) (sent_by sends.now)) }
+        (flat_map (datagrams_of (config_by sizes []) sender) sends.now) }
 {
     match sends.spelled() {
         Some((to, bytes)) => send(port, sizes, to, bytes),

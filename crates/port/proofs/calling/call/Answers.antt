@@ -1,6 +1,5 @@
 use Rattle.std.proofs.Common.{List, refl, subst}
 use Rattle.protocol.specs.Worlds.{Datagram}
-use Rattle.node_core.specs.Sends.{sent}
 use Rattle.node_core.proofs.Addressed.{datagrams_as}
 use Rattle.port.specs.Calls.{SendsAll}
 use Rattle.port.proofs.Members.{member_sizes}
@@ -19,6 +18,6 @@ returns g c =
       sends =
           subst (λ (ds : List Datagram). SendsAll g.P.Port.sent c.args.port.now c.send_all.new.port ds)
           (datagrams_as config sizes (member_sizes sizes now.floored now.told c.sizes-sizes.ensures config m stands) now.floored.node.who
-          (sent c.take-reply.result.sends))
+          c.take-reply.result.sends)
           (c.send_all.ensures now.floored.node.who);
     }
