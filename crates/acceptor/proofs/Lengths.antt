@@ -6,7 +6,6 @@ use Rattle.std.specs.List.{AllByRecursion, IsDistinct, list_any, flat_map}
 use Rattle.std.specs.Cmp.{unsigned_Decides, first_so, second_so}
 use Rattle.std.proofs.lemmas.Bool.{ltb-true, ltb-false, leb-true, lt-ltb, le-ltb, eq-eqb, eqb-true, and_from, true≢false}
 use Rattle.std.proofs.lemmas.List.Kept.{AllPairs-from_increasing}
-use Rattle.std.proofs.lemmas.List.Sums.{sum_by-cons}
 use Rattle.std.proofs.lemmas.Map.Keys.{IsDistinct-head, IsDistinct-tail}
 use Rattle.std.proofs.lemmas.Map.Made.{IsDistinct-from_AllPairs}
 use Rattle.xid.specs.Transactions.{TxParts, IsTx, participants, is_participant, tx_eq}
@@ -17,6 +16,7 @@ use Rattle.ballot.specs.Slots.{empty_slot}
 use Rattle.stable_record.specs.declared.fact.FactKind.{FactKind as Fact}
 use Rattle.stable_record.specs.Facts.{fact_tx}
 use Rattle.stable_record.specs.Frames.{frame_length}
+use Rattle.stable_record.proofs.Lengths.{length_both, length_of, length_sum}
 use Rattle.transactions.specs.Seen.{seen_with}
 use Rattle.transactions.proofs.First.{first_more, first_once, first_any}
 use Rattle.protocol.specs.declared.nodes.NodeId.TheVariants.{A}
@@ -35,22 +35,6 @@ use Rattle.acceptor.proofs.Least.{least_all, least_more, least_above}
 use Rattle.acceptor.proofs.Played.{slot_more, stays}
 
 -- ---- sums
-
--- the length of the frames of facts
-abbrev length_of : List Fact → ℕ
-length_of [] = 0
-length_of (fact ∷ facts) = frame_length fact + length_of facts
-
-length_both : (xs ys : List Fact) → length_of (xs ++ ys) ≡ length_of xs + length_of ys
-length_both [] ys = omega arith
-length_both (x ∷ xs) ys = omega (arith, length_both xs ys)
-
-length_sum : (facts : List Fact) → sum (map frame_length facts) ≡ length_of facts
-length_sum [] = refl
-length_sum (fact ∷ facts) =
-    let all : sum (map frame_length (fact ∷ facts)) ≡ frame_length fact + sum (map frame_length facts) =
-    sum_by-cons (λ (n : ℕ). n) (frame_length fact) (map frame_length facts) in
-    all ∙ ap (λ n. frame_length fact + n) (length_sum facts)
 
 -- a number of each instance, together
 abbrev total : (ℕ → ℕ) → List ℕ → ℕ

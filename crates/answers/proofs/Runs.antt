@@ -13,6 +13,12 @@ use Rattle.protocol.specs.Worlds.{World, Occurrence, step_of, trace, world_step,
 use Rattle.answers.specs.Answers.{IsAnswered, Tells, HavePrepared, NoneIs}
 use Rattle.answers.proofs.Decided.{committed_voted, committed_ready, never_committed, committed_agree, aborted_agree}
 
+-- a step of a run tells it
+pub record IsToldIn (config : Config) (world : World) (events : List Occurrence) (l : ℕ) (tx : TxParts) (standing : Standing) : Type 0 where
+  pub step : Step
+  pub among : IsIn (trace config world events) step
+  pub tells : Tells l tx standing step
+
 module _ (config : Config) (tx : TxParts) where
   -- some events on, a leader answers so
   record IsAnsweredOn (world : World) (l : ℕ) (standing : Standing) : Type 0 where

@@ -1,5 +1,5 @@
 -- Another branch hinders where a key has more uses than the own branch makes of it.
-use Rattle.std.proofs.Common.{◌≡◌, ◌∙◌, ℕ, ◌+◌, ◌<◌, ◌≤◌, Bool, true, false, not, ◌&&◌, ◌||◌, cond, ltb, List, [], ◌∷◌, map, Some, None}
+use Rattle.std.proofs.Common.{◌≡◌, ◌∙◌, ℕ, ◌+◌, ◌<◌, ◌≤◌, Bool, true, false, not, ◌&&◌, ◌||◌, cond, ltb, List, [], ◌∷◌, Some, None}
 use Rattle.std.proofs.Common.{refl, sym, ap, subst, arith, Decides, inl, inr}
 use Rattle.std.specs.List.{list_any, AllByRecursion, IsDistinct}
 use Rattle.std.proofs.lemmas.Bool.{and_parts, both_ways, cond_both, lt-ltb, ltb-true, not-true, or_cases, or_from, or_left, or_parts}
@@ -8,15 +8,13 @@ use Rattle.std.proofs.lemmas.List.Sums.{sum_by-cons}
 use Rattle.xid.specs.Names.{XidParts, xid_eq}
 use Rattle.xid.proofs.Deciding.{xid_self, xid_decides, xid_other, xid_apart}
 use Rattle.protocol.specs.Branches.{BranchView, no_branch, hinders_use}
+use Rattle.protocol.specs.Holds.{names_of}
 use Rattle.protocol.specs.Managers.{Branch, view_named}
 use Rattle.branch_table.specs.OneCall.{IsHindered}
 use Rattle.branch_table.specs.TableStates.{branch_named}
 use Rattle.branch_table.specs.Parts.{is_using, uses_of, uses_in}
 use Rattle.branch_table.proofs.Uses.{one}
 use Rattle.branch_table.proofs.Views.{hindered_to, is_of, none_hinders_use, view_of}
-
-abbrev pub names : List Branch → List XidParts
-names branches = map (λ branch. branch.xid) branches
 
 view_absent : (bs : List Branch) (x : XidParts) → list_any (is_of x) bs ≡ false → view_named bs x ≡ no_branch
 view_absent [] x e = refl
@@ -31,23 +29,23 @@ named_absent (b ∷ bs) x e =
     rw parts.0 (named_absent bs x parts.1)
 
 -- no later branch has the XID of the first
-absent_after : (bs : List Branch) (x : XidParts) → AllByRecursion (λ y. xid_eq x y ≡ false) (names bs) → list_any (is_of x) bs ≡ false
+absent_after : (bs : List Branch) (x : XidParts) → AllByRecursion (λ y. xid_eq x y ≡ false) (names_of bs) → list_any (is_of x) bs ≡ false
 absent_after [] x apart = refl
 absent_after (c ∷ bs) x apart =
     or_from (is_of x c) (list_any (is_of x) bs) (xid_other c.xid x (λ e. xid_apart x c.xid apart.0 (sym e)))
     (absent_after bs x apart.1)
 
-pub none_later : (c : Branch) (bs : List Branch) (x : XidParts) → IsDistinct xid_eq (names (c ∷ bs)) → is_of x c ≡ true
+pub none_later : (c : Branch) (bs : List Branch) (x : XidParts) → IsDistinct xid_eq (names_of (c ∷ bs)) → is_of x c ≡ true
     → list_any (is_of x) bs ≡ false
 unfolding IsDistinct
 none_later c bs x distinct own =
     subst (λ (y : XidParts). list_any (is_of y) bs ≡ false) ((xid_decides c.xid x).0 own) (absent_after bs c.xid distinct.0)
 
-absent_own : (c : Branch) (bs : List Branch) (x : XidParts) → IsDistinct xid_eq (names (c ∷ bs)) → is_of x c ≡ true
+absent_own : (c : Branch) (bs : List Branch) (x : XidParts) → IsDistinct xid_eq (names_of (c ∷ bs)) → is_of x c ≡ true
     → view_named bs x ≡ no_branch
 absent_own c bs x distinct own = view_absent bs x (none_later c bs x distinct own)
 
-pub distinct_tail : (b : Branch) (bs : List Branch) → IsDistinct xid_eq (names (b ∷ bs)) → IsDistinct xid_eq (names bs)
+pub distinct_tail : (b : Branch) (bs : List Branch) → IsDistinct xid_eq (names_of (b ∷ bs)) → IsDistinct xid_eq (names_of bs)
 unfolding IsDistinct
 distinct_tail b bs distinct = distinct.1
 
@@ -56,13 +54,13 @@ module _ (test : BranchView → Bool) (none : test no_branch ≡ false) where
   is_other x branch = not (xid_eq branch.xid x) && test (view_of branch)
 
   -- what shows of a later branch shows of the list
-  shows_later : (b : Branch) (bs : List Branch) (y : XidParts) → IsDistinct xid_eq (names (b ∷ bs))
+  shows_later : (b : Branch) (bs : List Branch) (y : XidParts) → IsDistinct xid_eq (names_of (b ∷ bs))
       → test (view_named bs y) ≡ true → test (view_named (b ∷ bs) y) ≡ true
   shows_later b bs y distinct shown =
       cond_both (xid_eq b.xid y) (view_of b) (view_named bs y) (λ (v : BranchView). test v ≡ true)
       (λ own. absurd (both_ways _ (ap test (absent_own b bs y distinct own) ∙ none) shown)) (λ other. shown)
 
-  hindered_from : (bs : List Branch) (x : XidParts) → IsDistinct xid_eq (names bs) → list_any (is_other x) bs ≡ true
+  hindered_from : (bs : List Branch) (x : XidParts) → IsDistinct xid_eq (names_of bs) → list_any (is_other x) bs ≡ true
       → IsHindered test (view_named bs) x
   hindered_from [] x distinct e = absurd (cc (e))
   hindered_from (b ∷ bs) x distinct e = elim (or_cases (is_other x b) (list_any (is_other x) bs) e) [
@@ -110,7 +108,7 @@ module _ (writes : Bool) (key : List ℕ) where
   none_own : (bs : List Branch) (x : XidParts) → list_any (is_of x) bs ≡ false → own bs x ≡ 0
   none_own bs x e = ap (uses_of writes key) (named_absent bs x e)
 
-  counted_from : (bs : List Branch) (x : XidParts) → IsDistinct xid_eq (names bs) → own bs x < uses bs
+  counted_from : (bs : List Branch) (x : XidParts) → IsDistinct xid_eq (names_of bs) → own bs x < uses bs
       → list_any (is_another x) bs ≡ true
   counted_from [] x distinct lt = absurd (omega (arith, lt))
   counted_from (b ∷ bs) x distinct lt =
@@ -132,7 +130,7 @@ module _ (writes : Bool) (key : List ℕ) where
           or_right (is_another x b) (list_any (is_another x) bs)
           (others (omega (arith, here, all, unused, lt)))
 
-  counted_to : (bs : List Branch) (x : XidParts) → IsDistinct xid_eq (names bs) → list_any (is_another x) bs ≡ true
+  counted_to : (bs : List Branch) (x : XidParts) → IsDistinct xid_eq (names_of bs) → list_any (is_another x) bs ≡ true
       → own bs x < uses bs
   counted_to [] x distinct found = absurd (cc (found))
   counted_to (b ∷ bs) x distinct found =
@@ -161,7 +159,7 @@ module _ (writes : Bool) (key : List ℕ) where
           omega (arith, here, all, rest)
 
   -- by numbers: the own uses, and all of them
-  pub hindered_by : (bs : List Branch) (x : XidParts) (mine all : ℕ) → IsDistinct xid_eq (names bs) → mine ≡ own bs x → all ≡ uses bs
+  pub hindered_by : (bs : List Branch) (x : XidParts) (mine all : ℕ) → IsDistinct xid_eq (names_of bs) → mine ≡ own bs x → all ≡ uses bs
       → (mine < all → IsHindered (hinders_use writes key) (view_named bs) x)
       × (IsHindered (hinders_use writes key) (view_named bs) x → mine < all)
   hindered_by bs x mine all distinct is-mine is-all =
@@ -174,13 +172,13 @@ module _ (writes : Bool) (key : List ℕ) where
       )
 
   -- the test of numbers is the test of a hindering branch
-  pub decides_by : (bs : List Branch) (x : XidParts) (mine all : ℕ) → IsDistinct xid_eq (names bs) → mine ≡ own bs x → all ≡ uses bs
+  pub decides_by : (bs : List Branch) (x : XidParts) (mine all : ℕ) → IsDistinct xid_eq (names_of bs) → mine ≡ own bs x → all ≡ uses bs
       → Decides (ltb mine all) (IsHindered (hinders_use writes key) (view_named bs) x)
   decides_by bs x mine all distinct is-mine is-all =
       let hindered = hindered_by bs x mine all distinct is-mine is-all in
       (λ e. hindered.0 (ltb-true mine all e), λ is. lt-ltb mine all (hindered.1 is))
 
   -- whether another branch hinders
-  pub is_busy : (bs : List Branch) (x : XidParts) → IsDistinct xid_eq (names bs)
+  pub is_busy : (bs : List Branch) (x : XidParts) → IsDistinct xid_eq (names_of bs)
       → (busy : Bool) × Decides busy (IsHindered (hinders_use writes key) (view_named bs) x)
   is_busy bs x distinct = (ltb (own bs x) (uses bs), decides_by bs x (own bs x) (uses bs) distinct refl refl)

@@ -2,7 +2,7 @@ mod Positions
 mod KeyPlaces
 pub mod Views
 mod Uses
-mod Found
+pub mod Found
 mod Hindered
 pub mod TableRows
 mod InLine

@@ -5,10 +5,11 @@ use Rattle.std.specs.List.{IsDistinct}
 use Rattle.xid.specs.Names.{XidParts, xid_eq}
 use Rattle.stable_record.specs.declared.fact.Touched.{Touched}
 use Rattle.protocol.specs.declared.states.BranchState.{BranchState}
+use Rattle.protocol.specs.Holds.{names_of}
 use Rattle.protocol.specs.Managers.{Branch, idle_keys}
 use Rattle.branch_table.specs.Outcomes.{HasLooked, keys_named, looks_after}
 use Rattle.branch_table.specs.TableStates.{branch_named, is_idle}
-use Rattle.branch_table.proofs.Hindered.{distinct_tail, named_absent, names, none_later}
+use Rattle.branch_table.proofs.Hindered.{distinct_tail, named_absent, none_later}
 use Rattle.branch_table.proofs.Uses.{looks_more}
 
 -- the keys of a branch that may not exist, if it is idle
@@ -16,7 +17,7 @@ abbrev pub idle_of : Option Branch → Option (List Touched)
 idle_of None = None
 idle_of (Some branch) = cond (is_idle branch.state) (Some branch.keys) None
 
-pub idle_from : (bs : List Branch) (x : XidParts) → IsDistinct xid_eq (names bs) → idle_keys bs x ≡ idle_of (branch_named bs x)
+pub idle_from : (bs : List Branch) (x : XidParts) → IsDistinct xid_eq (names_of bs) → idle_keys bs x ≡ idle_of (branch_named bs x)
 idle_from [] x distinct = refl
 idle_from (b ∷ bs) x distinct =
     by b.xid b.state b.keys (xid_eq b.xid x) refl (idle_from bs x (distinct_tail b bs distinct))

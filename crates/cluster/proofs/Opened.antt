@@ -16,9 +16,9 @@ use Rattle.stable_record.specs.declared.record.RecordError.{RecordError}
 use Rattle.stable_record.specs.declared.record.RecordError.TheVariants as errors
 use Rattle.stable_record.specs.Grammar.{IsStored}
 use Rattle.stable_record.specs.Behind.{behind}
-use Rattle.stable_record.specs.Floors.{floor_of, front_of}
+use Rattle.stable_record.specs.Floors.{front_of}
 use Rattle.stable_record.specs.Held.{Held, HasRead, Nature, refusal_of}
-use Rattle.stable_record.proofs.Floors.{floor_stays}
+use Rattle.stable_record.proofs.Floors.{empty_stored, no_floor}
 use Rattle.xid.specs.Places.{Place}
 use Rattle.protocol.specs.declared.events.Event.TheVariants.{Tear}
 use Rattle.protocol.specs.declared.answers.Answer.TheVariants.{Done}
@@ -46,9 +46,6 @@ use Rattle.cluster.specs.Clusters.{NoticesParts, cluster_of, AreTold, ClusterSta
 use Rattle.cluster.specs.Opening.{torn_node, opening_with, tears_of, NoneArmed, IsOver, IsMade, IsUnmade}
 use Rattle.cluster.specs.Opening.{IsBegun, IsUnbegun, AreBegun}
 
-nothing_stored : IsStored [] [] []
-nothing_stored = (refl, inl (omega arith))
-
 pub may_not : (may : Bool) → IsTrue may → may ≡ false → ⊥
 may_not may allowed e = let both : true ≡ false = sym allowed ∙ e in absurd (cc (both))
 
@@ -64,7 +61,7 @@ nothing_held : (config : Config) (who : NodeId) (bytes : List ℕ) → bytes ≡
     → Holds config who bytes (record { rows = None; facts = [] }) []
 nothing_held config who bytes empty = record {
   all = [];
-  stored = subst (λ (b : List ℕ). IsStored b [] []) (sym empty) nothing_stored;
+  stored = subst (λ (b : List ℕ). IsStored b [] []) (sym empty) empty_stored;
   means = nothing_meant who;
   fits = refl;
 }
@@ -76,10 +73,6 @@ none_equal n k e t = let zero_is : n ≡ 0 = eqb-true n 0 t in omega (arith, e, 
 pub no_bytes : (bytes : List ℕ) (n : ℕ) → n ≡ length bytes → (n == 0) ≡ true → bytes ≡ []
 no_bytes [] n e t = refl
 no_bytes (x ∷ xs) n e t = absurd (none_equal n (length xs) e t)
-
--- and begins with no floor
-no_floor : (bytes : List ℕ) → bytes ≡ [] → floor_of bytes ≡ None
-no_floor bytes empty = ap floor_of empty ∙ floor_stays None [] [] [] tt (λ i. omega arith) nothing_stored
 
 pub begun : (config : Config) (who : NodeId) (held now : Held) (floored : FlooredParts) → now ≡ held → held.bytes ≡ []
     → IsFlooredOpened config who now floored → IsBegun config who held floored

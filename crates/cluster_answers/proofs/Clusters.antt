@@ -8,7 +8,7 @@ use Rattle.protocol.specs.declared.states.Standing.{Standing}
 use Rattle.protocol.specs.declared.states.Standing.TheVariants as standings
 use Rattle.protocol.specs.Effects.{Config}
 use Rattle.answers.specs.Answers.{Tells, HavePrepared, NoneIs}
-use Rattle.answers.proofs.Runs.{never_both, prepared_ever, uncommitted_ever}
+use Rattle.answers.proofs.Runs.{never_both, prepared_ever, uncommitted_ever, IsToldIn}
 use Rattle.floors.specs.Worlds.{FlooredWorld}
 use Rattle.floors.specs.Runs.{IsFlooredReachable, events_from}
 use Rattle.floors.proofs.Following.{are_runs, machine_after}
@@ -16,12 +16,12 @@ use Rattle.cluster.specs.Clusters.{ClusterParts, ClusterStands, IsSound}
 use Rattle.cluster.specs.Runs.{FollowMachine, HaveOccurred}
 use Rattle.cluster.proofs.Following.{follow}
 use Rattle.cluster_answers.specs.Steps.{EndIn}
-use Rattle.cluster_answers.proofs.Told.{IsTold, told_in}
+use Rattle.cluster_answers.proofs.Told.{told_in}
 
 module _ (first last : ClusterParts) (steps : List Step) (occurred : HaveOccurred first steps last) (tx : TxParts) where
   module _ (config : Config) (world : FlooredWorld) (run : FollowMachine config world steps last) where
     found : (l : ℕ) (standing : Standing) (told : Step) → IsIn steps told → Tells l tx standing told
-        → IsTold config world.machine (events_from config world run.occurrences) l tx standing
+        → IsToldIn config world.machine (events_from config world run.occurrences) l tx standing
     found l standing told h tells =
         told_in config l tx standing world run.occurrences told (subst (λ (made : List Step). IsIn made told) run.steps_are h) tells
 

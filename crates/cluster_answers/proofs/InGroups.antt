@@ -7,15 +7,14 @@ use Rattle.ballot.specs.Greatest.{IsIn}
 use Rattle.protocol.specs.Vocabulary.{L, NodeId, Request, Stands as answers}
 use Rattle.safety.specs.CommitSteps.{committed}
 use Rattle.safety.specs.Runs as reachable
-use Rattle.protocol.specs.declared.events.Step.{Step}
 use Rattle.protocol.specs.declared.states.Standing.{Standing}
 use Rattle.protocol.specs.declared.states.Standing.TheVariants as standings
 use Rattle.protocol.specs.Effects.{Config}
 use Rattle.protocol.specs.Nodes.{NodeState, Input, Asked}
-use Rattle.protocol.specs.Worlds.{World, Occurrence, opening, node_at, trace, step_of, world_step}
+use Rattle.protocol.specs.Worlds.{World, Occurrence, opening, node_at, step_of, world_step}
 use Rattle.protocol.proofs.Lists.{IsIn-after}
-use Rattle.answers.specs.Answers.{IsQuestion, Tells, HavePrepared, NoneIs}
-use Rattle.answers.proofs.Runs.{never_both, prepared_ever, uncommitted_ever}
+use Rattle.answers.specs.Answers.{IsQuestion, HavePrepared, NoneIs}
+use Rattle.answers.proofs.Runs.{never_both, prepared_ever, uncommitted_ever, IsToldIn}
 use Rattle.node_core.specs.declared.output.Output.{Output}
 use Rattle.node_core.specs.Nodes.{NodeParts}
 use Rattle.groups.specs.Nodes.{IsGroup, replied}
@@ -24,16 +23,10 @@ use Rattle.groups.specs.Runs.{CanBeHanded, group_result}
 use Rattle.groups.proofs.Reached.{are_machines, with_nodes}
 use Rattle.cluster_answers.specs.Steps.{TellsIn, HasTold, IsToldAmong}
 
--- a step of a run tells it
-record IsTold (config : Config) (world : World) (events : List Occurrence) (l : ℕ) (tx : TxParts) (standing : Standing) : Type 0 where
-  step : Step
-  among : IsIn (trace config world events) step
-  tells : Tells l tx standing step
-
 -- what happened in groups happens in the run that is the same
 told_in : (config : Config) (world : World) (events : List Occurrence) (happened : List Happening) → AreSame config world events happened
     → (l : ℕ) (tx : TxParts) (standing : Standing) (told : Happening) → IsIn happened told → TellsIn l tx standing told
-    → IsTold config world events l tx standing
+    → IsToldIn config world events l tx standing
 told_in config world [] [] same l tx standing told h tells = absurd h
 told_in config world [] (first ∷ happened) same l tx standing told h tells = absurd same
 told_in config world (event ∷ events) [] same l tx standing told h tells = absurd h
@@ -55,7 +48,7 @@ module _ (config : Config) (world : World) (reach : IsReached config world) (tx 
   machines = are_machines config world reach
 
   found : (l : ℕ) (standing : Standing) (told : Happening) → IsIn (all_happened config world reach) told → TellsIn l tx standing told
-      → IsTold config (opening config) machines.events l tx standing
+      → IsToldIn config (opening config) machines.events l tx standing
   found l standing told h tells =
       told_in config (opening config) machines.events (all_happened config world reach) machines.same l tx standing told h tells
 

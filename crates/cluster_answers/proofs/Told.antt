@@ -11,17 +11,12 @@ use Rattle.protocol.specs.Nodes.{Asked, Fault, NoFault, NoMemoryBefore, NoMemory
 use Rattle.protocol.specs.Worlds.{Occurrence, StepResult, World, step_of, trace, world_after, world_step}
 use Rattle.protocol.proofs.Lists.{IsIn-after, IsIn-before}
 use Rattle.answers.specs.Answers.{IsQuestion, Tells}
+use Rattle.answers.proofs.Runs.{IsToldIn}
 use Rattle.floors.specs.Nodes.{forgotten_answer}
 use Rattle.floors.specs.Worlds.{FlooredResult, FlooredWorld, floored_trace}
 use Rattle.floors.specs.Worlds.{on_machine, step_with_floors, with_floors}
 use Rattle.floors.specs.Runs.{events_from, events_in_machine, machine_events, passes_over, with_fault}
 use Rattle.floors.proofs.Steps.{in_machine, same_event, unasked_event}
-
--- a step of the machine tells it
-pub record IsTold (config : Config) (world : World) (events : List Occurrence) (l : ℕ) (tx : TxParts) (standing : Standing) : Type 0 where
-  pub step : Step
-  pub among : IsIn (trace config world events) step
-  pub tells : Tells l tx standing step
 
 trace_both : (config : Config) (world : World) (first second : List Occurrence)
     → trace config world (first ++ second) ≡ trace config world first ++ trace config (world_after config world first) second
@@ -60,7 +55,7 @@ module _ (config : Config) (l : ℕ) (tx : TxParts) (standing : Standing) where
 
     -- one that isn't is the machine's
     told_by : (fault : Fault) (over : Bool) → passes_over config world (L l) (Asked request) ≡ over → answer_of fault ≡ answers standing
-        → IsTold config world.machine (with_fault fault (if over then [] else event ∷ [])) l tx standing
+        → IsToldIn config world.machine (with_fault fault (if over then [] else event ∷ [])) l tx standing
     told_by fault true over is = absurd (over_by fault over is)
     told_by fault false over is =
         let one : machine_events config world event ≡ event ∷ [] = ap (λ (t : Bool). if t then [] else event ∷ []) over in
@@ -77,20 +72,20 @@ module _ (config : Config) (l : ℕ) (tx : TxParts) (standing : Standing) where
         }
 
     told_now : (fault : Fault) → answer_of fault ≡ answers standing
-        → IsTold config world.machine (with_fault fault (events_in_machine config world (with_floors event))) l tx standing
+        → IsToldIn config world.machine (with_fault fault (events_in_machine config world (with_floors event))) l tx standing
     told_now fault is = told_by fault (passes_over config world (L l) (Asked request)) refl is
 
   -- among the events that come of those of a world is the one that tells it
   pub told_in : (world : FlooredWorld) (events : List Occurrence) (told : Step) → IsIn (floored_trace config world events) told
-      → Tells l tx standing told → IsTold config world.machine (events_from config world events) l tx standing
+      → Tells l tx standing told → IsToldIn config world.machine (events_from config world events) l tx standing
   told_in world [] told h tells = absurd h
   told_in world (first ∷ rest) told (inl same) tells =
       let fault = first.fault in
       let event_is : first.event ≡ Ask (L l) tells.request = ap (λ (s : Step). s.event) same ∙ tells.event_is in
       let answer_is : (step_with_floors config world first.event fault).answer ≡ answers standing =
       ap (λ (s : Step). s.answer) same ∙ tells.answer_is in
-      let now : IsTold config world.machine (with_fault fault (events_in_machine config world (with_floors first.event))) l tx standing =
-      subst (λ (e : Event). IsTold config world.machine (with_fault fault (events_in_machine config world (with_floors e))) l tx standing)
+      let now : IsToldIn config world.machine (with_fault fault (events_in_machine config world (with_floors first.event))) l tx standing =
+      subst (λ (e : Event). IsToldIn config world.machine (with_fault fault (events_in_machine config world (with_floors e))) l tx standing)
       (sym event_is)
       (told_now world tells.request tells.asks fault
       (subst (λ (e : Event). (step_with_floors config world e fault).answer ≡ answers standing) event_is answer_is)) in

@@ -15,18 +15,13 @@ use Rattle.floors.specs.Runs.{passes_over}
 use Rattle.floors.proofs.Steps.{same_event, unasked_event}
 use Rattle.history.specs.Answers.{IsAnswerOf, IsAnswered, answer_to}
 use Rattle.history.specs.Outages.{is_out, is_record_fault}
-use Rattle.history.proofs.Answering.{answered_ever, inside_stands, standing_inside}
+use Rattle.history.proofs.Answering.{answered_ever, inside_stands, standing_inside, IsAtNode}
 use Rattle.history.proofs.Laws as laws
 use Rattle.history.proofs.Runs as machine
 use Rattle.cluster_run.specs.Answers.{AreAnsweredHere, IsAnswerHere, IsAnsweredHere, is_down, is_over}
 use Rattle.cluster_run.proofs.Floored.{IsFlooredRun, AtFirst, Then, Follows, follows}
 use Rattle.cluster_run.proofs.Hindering.{answers_same}
 use Rattle.cluster_run.proofs.Raised.{IsSaid, said_ever}
-
--- a fault that doesn't come before a node is reached
-abbrev IsAtNode : Fault → Type 0
-IsAtNode NoMemoryBefore = ⊥
-IsAtNode fault = Unit {0}
 
 module _ (config : Config) (world : FlooredWorld) (before : List Step) (run : IsFlooredRun config world before) (rm : ℕ)
     (request : Request) where

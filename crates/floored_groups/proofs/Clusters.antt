@@ -11,9 +11,8 @@ use Rattle.xid.specs.Places.{Place}
 use Rattle.ballot.specs.Greatest.{IsIn}
 use Rattle.stable_record.specs.declared.record.RecordError.{RecordError}
 use Rattle.stable_record.specs.Behind.{behind}
-use Rattle.stable_record.specs.Floors.{floor_of, front_of}
-use Rattle.stable_record.specs.Grammar.{IsStored}
-use Rattle.stable_record.proofs.Floors.{floor_stays}
+use Rattle.stable_record.specs.Floors.{front_of}
+use Rattle.stable_record.proofs.Floors.{no_floor}
 use Rattle.protocol.specs.declared.answers.Answer.{Answer}
 use Rattle.protocol.specs.declared.decisions.Outgoing.{Outgoing}
 use Rattle.protocol.specs.declared.nodes.NodeId.{NodeId}
@@ -47,12 +46,6 @@ use Rattle.floored_groups.proofs.Taken.{taken, taken_alone, unstored}
 use Rattle.floored_groups.proofs.Upkept.{armed_on, asked_on, compacted, none_told, raised, restarted}
 
 -- ---- begun
-
-nothing_stored : IsStored [] [] []
-nothing_stored = (refl, inl (omega arith))
-
-no_floor : (bytes : List ℕ) → bytes ≡ [] → floor_of bytes ≡ None
-no_floor bytes empty = ap floor_of empty ∙ floor_stays None [] [] [] tt (λ i. omega arith) nothing_stored
 
 get_replicated : {X : Type 0} (count at : ℕ) (x : X) → at < count → slice_get (replicate count x) at ≡ Some x
 get_replicated zero at x lt = absurd (omega (arith, lt))

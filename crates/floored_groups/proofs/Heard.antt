@@ -27,19 +27,11 @@ use Rattle.floors.specs.Worlds.{hear_at, hear_result, higher, is_manager, least_
 use Rattle.floors.proofs.Rising.{entry_by, entry_own, least_rise, not_sunk}
 use Rattle.floored.specs.Nodes.{BefallsRise, FlooredParts, FlooredRaises, FlooredStands, on_rise}
 use Rattle.floored.specs.Told.{told_at}
-use Rattle.floored.proofs.Handling.{up_alike}
-use Rattle.floored.proofs.Standing.{stands_up}
+use Rattle.floored.proofs.Replacing.{is_up_as}
 use Rattle.port.specs.Members.{MemberParts, HearsAs, HearsUp, RisesToLeast}
 use Rattle.floored_groups.specs.Runs.{IsFlooredReached, FlooredHappening, Underwent}
 use Rattle.floored_groups.specs.Processes.{StandsIn, OthersStay, GoesOn, notice_to}
 use Rattle.floored_groups.proofs.Going.{goes_by, met_step, IsMet, others_same}
-
--- a process is up where the node is that it stands for
-pub role_up : (config : Config) (floored : FlooredParts) (m : NodeState) → FlooredStands config floored m
-    → is_some floored.node.role ≡ m.up
-role_up config floored m s =
-    stands_up s.from floored.node.who floored.node.rows floored.node.held floored.node.role s.few s.is.stands
-    ∙ up_alike s.from config floored.node.who floored.floor s.few m s.above
 
 -- an entry of another node
 pub entry_other : {X : Type 0} (table : NodeId → X) (who : NodeId) (x : X) (other : NodeId) → other ≢ who
@@ -236,7 +228,7 @@ module _ (config : Config) (world : FlooredWorld) (reach : IsFlooredReached conf
 
   -- what a process hears its node hears
   pub one_heard : HearsAs config m notice old new out → HasTaken config world reach who old new out (Underwent (Hear n) out.reply)
-  one_heard h = by (is_some old.floored.node.role) (role_up config old.floored m s.is) h
+  one_heard h = by (is_some old.floored.node.role) (is_up_as config old.floored m s.is) h
     where
       by : (t : Bool) → t ≡ m.up
           → MatchBool t (HearsUp config m notice old new out) ((new ≡ old) × (out ≡ output_of (Refused refusals.Down) None))

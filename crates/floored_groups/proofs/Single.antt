@@ -37,17 +37,13 @@ use Rattle.floors.proofs.Places.{put_same}
 use Rattle.floors.proofs.Steps.{in_machine}
 use Rattle.floored_groups.specs.Runs.{IsFlooredReached, Opening, Grouped, Kept, IsOneByOne, floored_node_after}
 use Rattle.floored_groups.specs.Runs.{floored_sends_after, is_floored_upkeep, with_net}
+use Rattle.floored_groups.proofs.Going.{IsMet}
 
 -- a world in which a node has become another
 abbrev with_node : Config → FlooredWorld → NodeId → NodeState → FlooredWorld
 with_node config world who node = record world { machine = set_node config world.machine who node }
 
 -- ---- one input
-
--- a fault with which a node is reached
-abbrev IsReached : Fault → Type 0
-IsReached NoMemoryBefore = ⊥
-IsReached fault = Unit {0}
 
 module _ (config : Config) (who : NodeId) (floor : Option Place) (node : NodeState) (input : Input) where
   unreached_by : (accepts up below : Bool) (fact : Option Fact) (tear : Option ℕ) (e : Effect Memory)
@@ -107,7 +103,7 @@ module _ (config : Config) (world : FlooredWorld) (net : List Datagram) (who : N
             (floored_node_step config who (world.floor who) found input fault)) o).world;
       }) is
 
-  asked : (request : Request) (fault : Fault) → IsReached fault → LeadsOn config world net who (step (Asked request) fault)
+  asked : (request : Request) (fault : Fault) → IsMet fault → LeadsOn config world net who (step (Asked request) fault)
   asked request NoMemoryBefore at = absurd at
   asked request NoFault at = leads_by (Asked request) NoFault (Ask who request) NoFault net refl (came_is net (Asked request) NoFault)
   asked request NoMemoryAt at =
@@ -138,7 +134,7 @@ module _ (config : Config) (world : FlooredWorld) (net : List Datagram) (who : N
               (Received l.message) fault).world;
         }) same
 
-    heard_by : (fault : Fault) → IsReached fault → LeadsOn config world net who (step (Received message) fault)
+    heard_by : (fault : Fault) → IsMet fault → LeadsOn config world net who (step (Received message) fault)
     heard_by NoMemoryBefore at = absurd at
     heard_by NoFault at =
         leads_by (Received message) NoFault (Deliver n) NoFault (mark_at net n) (marked_mail net n)
@@ -150,7 +146,7 @@ module _ (config : Config) (world : FlooredWorld) (net : List Datagram) (who : N
         leads_by (Received message) (RecordFails whole) (Deliver n) (RecordFails whole) (mark_at net n) (marked_mail net n)
         (delivered (RecordFails whole) ∙ came_is (mark_at net n) (Received message) (RecordFails whole))
 
-  heard : (message : Kind) → IsIn (mail net) (record { receiver = who; message = message }) → (fault : Fault) → IsReached fault
+  heard : (message : Kind) → IsIn (mail net) (record { receiver = who; message = message }) → (fault : Fault) → IsMet fault
       → LeadsOn config world net who (step (Received message) fault)
   heard message among fault at =
       let d = deliverable net (record { receiver = who; message = message }) among in
@@ -173,7 +169,7 @@ module _ (config : Config) (world : FlooredWorld) (net : List Datagram) (who : N
             (floored_node_step config who (world.floor who) found ReceivedNoise fault)) o).world;
       }) is)
 
-  noise : (fault : Fault) → IsReached fault → LeadsOn config world net who (step ReceivedNoise fault)
+  noise : (fault : Fault) → IsMet fault → LeadsOn config world net who (step ReceivedNoise fault)
   noise NoMemoryBefore at = absurd at
   noise NoFault at =
       leads_by ReceivedNoise NoFault (Noise who []) NoFault net refl (noise_is NoFault ∙ came_is net ReceivedNoise NoFault)
@@ -189,7 +185,7 @@ module _ (config : Config) (world : FlooredWorld) (net : List Datagram) (who : N
   IsMailed (Received message) = IsIn (mail net) (record { receiver = who; message = message })
   IsMailed ReceivedNoise = Unit {0}
 
-  by_input : (input : Input) → IsMailed input → (fault : Fault) → IsReached fault → LeadsOn config world net who (step input fault)
+  by_input : (input : Input) → IsMailed input → (fault : Fault) → IsMet fault → LeadsOn config world net who (step input fault)
   by_input (Asked request) mailed fault at = asked request fault at
   by_input (Received message) mailed fault at = heard message mailed fault at
   by_input ReceivedNoise mailed fault at = noise fault at

@@ -9,7 +9,6 @@ use Rattle.protocol.specs.Vocabulary.{L, NodeId, R, Refused, Request, Stands as 
 use Rattle.safety.specs.CommitSteps.{committed}
 use Rattle.safety.specs.Runs as reachable
 use Rattle.safety.specs.Runs.{views_in}
-use Rattle.protocol.specs.declared.events.Step.{Step}
 use Rattle.protocol.specs.declared.states.Standing.{Standing}
 use Rattle.protocol.specs.declared.states.Standing.TheVariants as standings
 use Rattle.protocol.specs.declared.states.View.{View}
@@ -17,10 +16,10 @@ use Rattle.protocol.specs.declared.states.View.TheVariants as views
 use Rattle.protocol.specs.Effects.{Config}
 use Rattle.protocol.specs.Nodes.{NodeState, Input, Asked, Fault, Outcome, accepts_input, answer_outcome, down_answer}
 use Rattle.protocol.specs.TCommit.{IsReady}
-use Rattle.protocol.specs.Worlds.{World, Occurrence, opening, trace, step_of, world_step}
+use Rattle.protocol.specs.Worlds.{World, Occurrence, opening, step_of, world_step}
 use Rattle.protocol.proofs.Lists.{IsIn-after, IsIn-append, IsIn-before}
-use Rattle.answers.specs.Answers.{IsQuestion, Tells, HavePrepared, NoneIs}
-use Rattle.answers.proofs.Runs.{never_both, prepared_ever, uncommitted_ever}
+use Rattle.answers.specs.Answers.{IsQuestion, HavePrepared, NoneIs}
+use Rattle.answers.proofs.Runs.{never_both, prepared_ever, uncommitted_ever, IsToldIn}
 use Rattle.node_core.specs.Configs.{is_among}
 use Rattle.groups.specs.Runs.{Handed, Happening, Handled, IsMachines, AreSame, IsSame}
 use Rattle.groups.proofs.Reached.{with_nodes}
@@ -126,14 +125,9 @@ module _ (config : Config) (tx : TxParts) (request : Request) (asks : IsQuestion
 
 -- ---- a step of the machine's run tells it
 
-record IsTold (config : Config) (world : World) (events : List Occurrence) (l : ℕ) (tx : TxParts) (standing : Standing) : Type 0 where
-  step : Step
-  among : IsIn (trace config world events) step
-  tells : Tells l tx standing step
-
 told_in : (config : Config) (world : World) (events : List Occurrence) (happened : List Happening) → AreSame config world events happened
     → (l : ℕ) (tx : TxParts) (standing : Standing) (request : Request) → IsQuestion tx request
-    → IsIn happened (Handled (L l) (Asked request) (answers standing)) → IsTold config world events l tx standing
+    → IsIn happened (Handled (L l) (Asked request) (answers standing)) → IsToldIn config world events l tx standing
 told_in config world [] [] same l tx standing request asks h = absurd h
 told_in config world [] (first ∷ happened) same l tx standing request asks h = absurd same
 told_in config world (event ∷ events) [] same l tx standing request asks h = absurd h
@@ -161,7 +155,7 @@ module _ (config : Config) (all : AllProcesses) (run : IsRun config all) (tx : T
   machines = are_machines config so.world so.reached
 
   found : (l : ℕ) (standing : Standing) (reply : Reply) → IsIn (all_replies config all run) reply → TellsClient l tx standing reply
-      → IsTold config (opening config) machines.events l tx standing
+      → IsToldIn config (opening config) machines.events l tx standing
   found l standing reply h tells =
       told_in config (opening config) machines.events (machine_happened config so.world so.reached) machines.same l tx standing
       tells.request tells.asks

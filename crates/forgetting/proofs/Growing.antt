@@ -1,6 +1,6 @@
 -- What few facts say of names that aren't below a floor they go on to say with one more fact of such a name.
 use Rattle.std.proofs.Common.{◌≡◌, ◌∙◌, ℕ, max, Bool, true, false, not, ◌&&◌, ◌||◌, List, [], ◌∷◌, ◌++◌, Option, Some, None}
-use Rattle.std.proofs.Common.{refl, sym, ap, subst, append-nil, is_none}
+use Rattle.std.proofs.Common.{refl, sym, ap, subst, append-nil}
 use Rattle.std.specs.Prelude.{filter, filter_map}
 use Rattle.std.specs.List.{list_any, last_or, cons_option}
 use Rattle.std.specs.Option.{option_map_or}
@@ -33,8 +33,8 @@ use Rattle.protocol.proofs.Manager.Played.{voted_named}
 use Rattle.protocol.proofs.Manager.Views.{prepared_before, prepared_shows}
 use Rattle.protocol.proofs.Local.{acceptor_play, leader_play}
 use Rattle.safety.proofs.Leader.Memory.{greatest-append}
-use Rattle.resource_manager.specs.Courses.{Stored, stored_in, view_among, vote_among, is_ended_among}
-use Rattle.resource_manager.proofs.Kept.{commits_voted}
+use Rattle.resource_manager.specs.Courses.{Stored, stored_in, view_among}
+use Rattle.resource_manager.proofs.Kept.{commits_voted, is_new_among}
 use Rattle.resource_manager.proofs.More.{keys_stay, stored_other, table_more}
 use Rattle.resource_manager.proofs.Pieces.{either, stored_append}
 use Rattle.resource_manager.proofs.Standing.{keys_of_vote}
@@ -104,10 +104,6 @@ module _ (facts : List Fact) (fact : Fact) where
       ap (λ (s : Stored). is_prepared_view (view_among s)) (stored_other facts fact b.tx other) ∙ (bound_stored facts b h).prepared
 
 -- ---- a resource manager
-
--- whether neither a vote nor an outcome is among these
-abbrev is_new_among : Stored → Bool
-is_new_among s = is_none (vote_among s) && not (is_ended_among s)
 
 module _ (rm : ℕ) (floor : Option Place) (few all : List Fact) (says : ManagerSays rm floor few all) (fact : Fact)
     (above : is_below floor (fact_tx fact) ≡ false) where

@@ -121,7 +121,7 @@ standing_inside config world rm node stands = by_test (nat_lt rm config.managers
 -- ---- an answer
 
 -- a fault that doesn't come before a node is reached
-abbrev IsAtNode : Fault → Type 0
+abbrev pub IsAtNode : Fault → Type 0
 IsAtNode NoMemoryBefore = ⊥
 IsAtNode fault = Unit {0}
 

@@ -6,7 +6,6 @@ use Rattle.std.specs.List.{AllByRecursion, IsDistinct, list_any, cons_option}
 use Rattle.std.specs.Cmp.{first_so, second_so}
 use Rattle.std.proofs.lemmas.Bool.{ltb-true, ltb-false, lt-ltb, and_from, true≢false}
 use Rattle.std.proofs.lemmas.List.{append-nil}
-use Rattle.std.proofs.lemmas.List.Sums.{sum_by-cons}
 use Rattle.std.proofs.lemmas.Map.Keys.{IsDistinct-head, IsDistinct-tail}
 use Rattle.xid.specs.Transactions.{TxParts, tx_eq}
 use Rattle.transactions.proofs.Before.{turned}
@@ -15,6 +14,7 @@ use Rattle.ballot.specs.Greatest.{greatest}
 use Rattle.stable_record.specs.declared.fact.FactKind.{FactKind as Fact}
 use Rattle.stable_record.specs.Facts.{fact_tx}
 use Rattle.stable_record.specs.Frames.{frame_length}
+use Rattle.stable_record.proofs.Lengths.{length_both, length_of, length_sum}
 use Rattle.transactions.specs.Seen.{seen_with}
 use Rattle.transactions.proofs.First.{seen_after, seen_all, first_any, first_both, first_more, first_once}
 use Rattle.protocol.specs.declared.nodes.NodeId.TheVariants.{L}
@@ -279,22 +279,6 @@ compacted_begun stored txs once some = ballots_seen stored txs [] (each txs some
     )
 
 -- ---- their lengths
-
--- the length of the frames of facts
-abbrev length_of : List Fact → ℕ
-length_of [] = 0
-length_of (fact ∷ facts) = frame_length fact + length_of facts
-
-length_both : (xs ys : List Fact) → length_of (xs ++ ys) ≡ length_of xs + length_of ys
-length_both [] ys = omega arith
-length_both (x ∷ xs) ys = omega (arith, length_both xs ys)
-
-length_sum : (facts : List Fact) → sum (map frame_length facts) ≡ length_of facts
-length_sum [] = refl
-length_sum (fact ∷ facts) =
-    let all : sum (map frame_length (fact ∷ facts)) ≡ frame_length fact + sum (map frame_length facts) =
-    sum_by-cons (λ (n : ℕ). n) (frame_length fact) (map frame_length facts) in
-    all ∙ ap (λ n. frame_length fact + n) (length_sum facts)
 
 ballot_length : (tx : TxParts) (b c : ℕ) → length_of (ballot_facts tx b) ≤ frame_length (Fact.Ballot tx c)
 ballot_length tx b c = by (ltb 0 b)

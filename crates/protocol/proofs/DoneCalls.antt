@@ -1,21 +1,17 @@
 -- In which state of its branch a call is done.
 use Rattle.std.proofs.Common.{◌≡◌, ◌≢◌, Bool, true, false, if◌then◌else◌, List, Option, Some, None, refl, ap}
-use Rattle.std.specs.Prelude.{is_none}
 use Rattle.std.proofs.lemmas.Bool.{both_ways}
 use Rattle.xid.specs.declared.codes.XaCode.TheVariants as code
 use Rattle.protocol.specs.declared.states.BranchState.TheVariants.{Active, Idle, RollbackOnly, Prepared}
 use Rattle.protocol.specs.Vocabulary.{BranchState, Action, Start, Put, Del, Get, End, EndFail, Rollback, Answer, Code, Row}
 use Rattle.protocol.specs.Branches.{BranchView, by_state, rollback_answer, call_answer, is_done}
+use Rattle.protocol.proofs.Manager.Apart.{start_by}
 
 -- the state in which a call is done
 abbrev pub IsReadyFor : Action → Option BranchState → Type 0
 IsReadyFor Start state = state ≡ None
 IsReadyFor Rollback state = state ≢ Some Prepared
 IsReadyFor action state = state ≡ Some Active
-
-absent_only : (state : Option BranchState) → is_done Start (if is_none state then Code code.Ok else Code code.DupId) ≡ true → state ≡ None
-absent_only None done = refl
-absent_only (Some state) done = absurd (cc (done))
 
 unprepared_only : (state : Option BranchState) → is_done Rollback (rollback_answer state) ≡ true → state ≢ Some Prepared
 unprepared_only state done e =
@@ -39,7 +35,7 @@ active_only action true (Some Prepared) active never done = absurd (both_ways _ 
 -- a call that is done found its branch in that state
 pub ready : (rows : List Row) (v : BranchView) (busy : Bool) (action : Action) → is_done action (call_answer rows v busy action) ≡ true
     → IsReadyFor action v.state
-ready rows v busy Start done = absent_only v.state done
+ready rows v busy Start done = start_by v.state done
 ready rows v busy (Put key value) done = active_only (Put key value) _ v.state _ (refl, refl, refl) done
 ready rows v busy (Del key) done = active_only (Del key) _ v.state _ (refl, refl, refl) done
 ready rows v busy (Get key) done = active_only (Get key) _ v.state _ (refl, refl, refl) done

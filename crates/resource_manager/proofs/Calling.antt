@@ -35,9 +35,10 @@ use Rattle.branch_table.specs.declared.table.Ending.{Ending}
 use Rattle.branch_table.specs.declared.table.Ending.TheVariants as endings
 use Rattle.branch_table.specs.TableStates.{TableState, Steps, branch_named, branch_done, branch_left}
 use Rattle.branch_table.proofs.Views.{none_hinders}
+use Rattle.branch_table.proofs.Found.{view_or_none, view_of_named}
 use Rattle.resource_manager.specs.SpentNames.{is_spent_in}
 use Rattle.resource_manager.specs.Managers.{ManagerParts, StandsFor, IsCall, branches_in, call_effect}
-use Rattle.resource_manager.proofs.Named.{named_own, named_in, shown, view_shown}
+use Rattle.resource_manager.proofs.Named.{named_own, named_in}
 
 -- ---- who hinders
 
@@ -52,21 +53,21 @@ module _ (test : BranchView → Bool) (none : test no_branch ≡ false) (bs : Li
       let parts = and_parts (not (xid_eq b.xid x)) (test (view_by b.state b.keys)) found.passes in (
         b.xid,
         λ same. both_ways (xid_eq b.xid x) (not-true (xid_eq b.xid x) parts.0) ((xid_decides b.xid x).1 same),
-        ap test (view_shown bs b.xid ∙ ap shown (named_own bs b once found.among)) ∙ parts.1,
+        ap test (view_of_named bs b.xid ∙ ap view_or_none (named_own bs b once found.among)) ∙ parts.1,
       )
 
   hindered_to : IsHindered test (view_named bs) x → is_hindered test bs x ≡ true
   hindered_to is = by (branch_named bs is.0) refl
     where
       by : (o : Option Branch) → branch_named bs is.0 ≡ o → is_hindered test bs x ≡ true
-      by None e = absurd (both_ways (test no_branch) none (sym (ap test (view_shown bs is.0 ∙ ap shown e)) ∙ is.2))
+      by None e = absurd (both_ways (test no_branch) none (sym (ap test (view_of_named bs is.0 ∙ ap view_or_none e)) ∙ is.2))
       by (Some b) e =
           let found = named_in bs is.0 b e in
           found_any is_other bs b found.0
           (and_from (not (xid_eq b.xid x)) (test (view_by b.state b.keys))
           (not_from_false (xid_eq b.xid x) (false_from_ne_true (xid_eq b.xid x)
           (λ f. is.1 (sym found.1 ∙ (xid_decides b.xid x).0 f))))
-          (sym (ap test (view_shown bs is.0 ∙ ap shown e)) ∙ is.2))
+          (sym (ap test (view_of_named bs is.0 ∙ ap view_or_none e)) ∙ is.2))
 
   pub busy_decides : Decides (is_hindered test bs x) (IsHindered test (view_named bs) x)
   busy_decides = (hindered_by, hindered_to)
@@ -174,14 +175,14 @@ mapped_left x action bs is = record {
   others = λ y apart. mapped x action bs y ∙ step_other x action bs y apart (branch_named bs y) refl;
 }
 
-absent_name : (o : Option Branch) → (shown o).state ≡ None → o ≡ None
+absent_name : (o : Option Branch) → (view_or_none o).state ≡ None → o ≡ None
 absent_name None e = refl
 absent_name (Some b) e = absurd (cc (e))
 
 left_by : (x : XidParts) (action : Action) (bs : List Branch) → IsReadyFor action (view_named bs x).state
     → IsLeft x action bs (after_call bs x action)
 left_by x Start bs none =
-    let absent = absent_name (branch_named bs x) (sym (ap (λ (v : BranchView). v.state) (view_shown bs x)) ∙ none) in
+    let absent = absent_name (branch_named bs x) (sym (ap (λ (v : BranchView). v.state) (view_of_named bs x)) ∙ none) in
     let fresh : Branch = record { xid = x; state = BranchState.Active; keys = [] } in
     record {
       own = named_append bs (fresh ∷ []) x ∙ ap (λ (o : Option Branch). first o (branch_named (fresh ∷ []) x)) absent
@@ -221,8 +222,8 @@ module _ (ps : List Branch) (prepared : (p : Branch) → IsIn ps p → p.state �
       by : (o : Option Branch) → branch_named ps x ≡ o → branch_named ps x ≡ None
       by None e = e
       by (Some p) e =
-          let found = view_shown (ps ++ bs) x
-          ∙ ap shown (named_append ps bs x ∙ ap (λ (o : Option Branch). first o (branch_named bs x)) e) in
+          let found = view_of_named (ps ++ bs) x
+          ∙ ap view_or_none (named_append ps bs x ∙ ap (λ (o : Option Branch). first o (branch_named bs x)) e) in
           absurd (never_prepared action (view_named (ps ++ bs) x).state
           (ap (λ (v : BranchView). v.state) found ∙ ap Some (prepared p (named_in ps x p e).0)) is)
 
@@ -231,7 +232,7 @@ module _ (ps : List Branch) (prepared : (p : Branch) → IsIn ps p → p.state �
 
   pub left_behind : IsLeft x action (ps ++ bs) (ps ++ after_call bs x action)
   left_behind =
-      let view_same = view_shown (ps ++ bs) x ∙ ap shown (through bs) ∙ sym (view_shown bs x) in
+      let view_same = view_of_named (ps ++ bs) x ∙ ap view_or_none (through bs) ∙ sym (view_of_named bs x) in
       let left = left_by x action bs (subst (λ (v : BranchView). IsReadyFor action v.state) view_same is) in
       record {
         own = through (after_call bs x action) ∙ left.own ∙ ap (λ (o : Option Branch). branch_done o x action) (sym (through bs));
@@ -332,7 +333,7 @@ module _ (config : Config) (number : ℕ) (m : ManagerParts) (now : TableState) 
     once = names_held_once config number facts branches stands.played stands.apart
 
     views : view_named m.table.branches ≡ view_named all
-    views = λ i y. (view_shown m.table.branches y ∙ ap shown (stands.branches_are y) ∙ sym (view_shown all y)) i
+    views = λ i y. (view_of_named m.table.branches y ∙ ap view_or_none (stands.branches_are y) ∙ sym (view_of_named all y)) i
 
     answers : Answers rows (view_named all) x action answer
     answers =

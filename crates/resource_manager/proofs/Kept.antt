@@ -101,7 +101,7 @@ unbegun : (s : Stored) → is_begun s ≡ false → s ≡ stored_by Course.Worki
 unbegun s e = unbegun_by s.voted_prepared s.voted_aborted s.committed s.aborted e
 
 -- whether neither a vote nor an outcome is among these
-abbrev is_new_among : Stored → Bool
+abbrev pub is_new_among : Stored → Bool
 is_new_among s = is_none (vote_among s) && not (is_ended_among s)
 
 new_by_bits : (p a c d : Bool) → is_new_among (record { voted_prepared = p; voted_aborted = a; committed = c; aborted = d }) ≡ true

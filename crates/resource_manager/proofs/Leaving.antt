@@ -1,6 +1,6 @@
 -- What is left of a resource manager's facts without the writes of what is committed says what they say.
 use Rattle.std.proofs.Common.{◌≡◌, ◌⊎◌, inl, inr, ◌∙◌, ℕ, Bool, true, false, not, ◌&&◌, ◌||◌, if◌then◌else◌, List, [], ◌∷◌, ◌++◌}
-use Rattle.std.proofs.Common.{Option, Some, None, refl, sym, ap, subst, is_none, unwrap_or, fold}
+use Rattle.std.proofs.Common.{Option, Some, None, refl, sym, ap, subst, unwrap_or, fold}
 use Rattle.std.specs.Prelude.{map, filter, filter_map, find, option_map}
 use Rattle.std.specs.List.{list_any, cons_option}
 use Rattle.std.specs.Option.{option_map_or}
@@ -28,13 +28,9 @@ use Rattle.protocol.specs.Tables.{commit_of, keys_voted, put_row, table, with_wr
 use Rattle.protocol.proofs.Lists.{any_found, found_any, IsIn-mapped, filter_map_given}
 use Rattle.protocol.proofs.Manager.Apart.{bound_stored, stored_bound}
 use Rattle.protocol.proofs.Manager.Views.{prepared_shows, committed_same}
-use Rattle.resource_manager.specs.Courses.{Stored, stored_in, view_among, vote_among, is_ended_among}
-use Rattle.resource_manager.proofs.Kept.{first_vote}
+use Rattle.resource_manager.specs.Courses.{Stored, stored_in, view_among}
+use Rattle.resource_manager.proofs.Kept.{first_vote, is_new_among}
 use Rattle.resource_manager.specs.Left.{without_writes}
-
--- whether neither a vote nor an outcome is among these
-abbrev is_new_among : Stored → Bool
-is_new_among s = is_none (vote_among s) && not (is_ended_among s)
 
 -- where a transaction is prepared it isn't committed
 pub uncommitted : (facts : List Fact) (tx : TxParts) → is_prepared_view (view facts tx) ≡ true → list_any (is_commit_of tx) facts ≡ false

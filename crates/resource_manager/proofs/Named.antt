@@ -8,9 +8,8 @@ use Rattle.xid.proofs.Deciding.{xid_self, xid_decides}
 use Rattle.ballot.specs.Greatest.{IsIn}
 use Rattle.stable_record.specs.declared.fact.Touched.{Touched}
 use Rattle.protocol.specs.declared.states.BranchState.{BranchState}
-use Rattle.protocol.specs.Branches.{BranchView, no_branch}
 use Rattle.protocol.specs.Holds.{AreNamedOnce, names_of}
-use Rattle.protocol.specs.Managers.{Branch, view_by, view_named, idle_keys}
+use Rattle.protocol.specs.Managers.{Branch, idle_keys}
 use Rattle.protocol.proofs.Lists.{IsIn-map, found_among, found_any, any_find}
 use Rattle.branch_table.specs.TableStates.{branch_named}
 use Rattle.branch_table.specs.Outcomes.{idle_branch}
@@ -57,21 +56,6 @@ same_named bs cs x once to from = by (branch_named bs x) refl
     by : (o : Option Branch) → branch_named bs x ≡ o → branch_named bs x ≡ branch_named cs x
     by None e = e ∙ sym (named_none cs x (λ b h same. none_named bs x e b (from b same h) same))
     by (Some b) e = let is = named_in bs x b e in e ∙ sym (named_at cs b x once (to b is.1 is.0) is.1)
-
--- ---- how a branch shows that was found
-
-abbrev pub shown : Option Branch → BranchView
-shown None = no_branch
-shown (Some b) = view_by b.state b.keys
-
-shown_by : (b : Branch) (v : BranchView) (o : Option Branch) (t : Bool) → v ≡ shown o
-    → cond t (view_by b.state b.keys) v ≡ shown (cond t (Some b) o)
-shown_by b v o true e = refl
-shown_by b v o false e = e
-
-pub view_shown : (bs : List Branch) (x : XidParts) → view_named bs x ≡ shown (branch_named bs x)
-view_shown [] x = refl
-view_shown (b ∷ bs) x = shown_by b (view_named bs x) (branch_named bs x) (xid_eq b.xid x) (view_shown bs x)
 
 -- ---- idle branches
 

@@ -3,8 +3,7 @@ use Rattle.std.proofs.Common.{◌≡◌, ◌∙◌, ℕ, zero, suc, ◌+◌, ◌
 use Rattle.std.proofs.Common.{subst}
 use Rattle.std.proofs.Common.{Option, Some, arith}
 use Rattle.std.specs.Prelude.{filter_map, slice_get}
-use Rattle.std.proofs.Common.{Bool}
-use Rattle.std.specs.List.{list_all, cons_option}
+use Rattle.std.specs.List.{cons_option}
 use Rattle.std.proofs.lemmas.Bool.{and_from, and_parts, lt-ltb, ltb-true}
 use Rattle.std.proofs.lemmas.List.{length-append}
 use Rattle.std.proofs.lemmas.List.Elements.{filter_map-append}
@@ -12,18 +11,15 @@ use Rattle.std.proofs.lemmas.List.Sums.{passes_at_first}
 use Rattle.std.proofs.lemmas.Option.{slice_get-get_or}
 use Rattle.xid.proofs.Deciding.{tx_decides}
 use Rattle.xid.specs.Transactions.{TxParts, tx_eq}
-use Rattle.transactions.specs.Seen.{place_in, seen_with}
+use Rattle.transactions.specs.Seen.{place_in, seen_with, no_transaction}
 use Rattle.transactions.proofs.Keys.{absent_from_place}
 use Rattle.transactions.proofs.Rows.{number_same, is_seen, row_added, row_changed}
 use Rattle.resource_manager.specs.declared.course.Course.{Course}
+use Rattle.resource_manager.specs.Messages.{are_below}
 
 -- the course of one that wasn't seen
 abbrev new_course : TxParts → Course
 new_course tx = Course.Working
-
--- whether numbers are below one
-abbrev pub all_below : ℕ → List ℕ → Bool
-all_below n numbers = list_all (λ number. nat_lt number n) numbers
 
 get_front : {X : Type 0} (xs : List X) (x : X) (k : ℕ) → k < length xs → slice_get (xs ++ x ∷ []) k ≡ slice_get xs k
 get_front [] x k lt = absurd (omega (arith, lt))
@@ -40,22 +36,22 @@ module _ (ts us : List TxParts) (tx : TxParts) (absent : place_in ts tx ≡ leng
       (number_same ts tx absent, is_seen ts tx absent)
 
   -- what is found by numbers from before is the same
-  pub saw_begun : (numbers : List ℕ) → all_below (length ts) numbers ≡ true
+  pub saw_begun : (numbers : List ℕ) → are_below (length ts) numbers ≡ true
       → filter_map (slice_get us) numbers ≡ filter_map (slice_get ts) numbers
   saw_begun [] below = refl
   saw_begun (k ∷ numbers) below =
-      let parts = and_parts (nat_lt k (length ts)) (all_below (length ts) numbers) below in
+      let parts = and_parts (nat_lt k (length ts)) (are_below (length ts) numbers) below in
       let same : slice_get us k ≡ slice_get ts k =
       ap (λ xs. slice_get xs k) last ∙ get_front ts tx k (ltb-true k (length ts) parts.0) in
       λ i. cons_option (same i) (saw_begun numbers parts.1 i)
 
-  pub saw_below : (numbers : List ℕ) → all_below (length ts) numbers ≡ true → all_below (length us) numbers ≡ true
+  pub saw_below : (numbers : List ℕ) → are_below (length ts) numbers ≡ true → are_below (length us) numbers ≡ true
   saw_below [] below = refl
   saw_below (k ∷ numbers) below =
-      let parts = and_parts (nat_lt k (length ts)) (all_below (length ts) numbers) below in
+      let parts = and_parts (nat_lt k (length ts)) (are_below (length ts) numbers) below in
       let more : length us ≡ length ts + 1 = ap length last ∙ length-append ts (tx ∷ []) in
       let lt = ltb-true k (length ts) parts.0 in
-      and_from (nat_lt k (length us)) (all_below (length us) numbers) (lt-ltb k (length us) (omega (arith, lt, more)))
+      and_from (nat_lt k (length us)) (are_below (length us) numbers) (lt-ltb k (length us) (omega (arith, lt, more)))
       (saw_below numbers parts.1)
 
   module _ (cs ds : List Course) (pushed : ds ≡ cs ++ Course.Working ∷ []) (whole : length cs ≡ length ts) where
@@ -76,14 +72,11 @@ set_course ts cs n tx course number seen whole other =
     ap (λ k. get_or (set cs k course) (place_in ts other) Course.Working) number
     ∙ row_changed new_course ts cs whole tx course seen other
 
-nobody : TxParts
-nobody = record { format = 0; gtrid = []; branches = [] }
-
 -- a transaction that was seen is found by its number
 place_gets : (ts : List TxParts) (tx : TxParts) → place_in ts tx < length ts → slice_get ts (place_in ts tx) ≡ Some tx
 place_gets ts tx seen =
-    slice_get-get_or ts (place_in ts tx) nobody seen
-    ∙ ap Some (sym ((tx_decides tx (get_or ts (place_in ts tx) nobody)).0 (passes_at_first (tx_eq tx) ts nobody seen)))
+    slice_get-get_or ts (place_in ts tx) no_transaction seen
+    ∙ ap Some (sym ((tx_decides tx (get_or ts (place_in ts tx) no_transaction)).0 (passes_at_first (tx_eq tx) ts no_transaction seen)))
 
 pub begun_push : (ts : List TxParts) (numbers : List ℕ) (n : ℕ) (tx : TxParts) → n ≡ place_in ts tx → place_in ts tx < length ts
     → filter_map (slice_get ts) (numbers ++ n ∷ []) ≡ filter_map (slice_get ts) numbers ++ tx ∷ []

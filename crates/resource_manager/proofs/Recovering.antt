@@ -34,10 +34,10 @@ use Rattle.protocol.proofs.Manager.Prepared.{names_held_once, prepared_or_not, v
 use Rattle.protocol.proofs.TouchedKeys.{less_from}
 use Rattle.branch_table.specs.TableStates.{AreTableBranches, is_prepared}
 use Rattle.branch_table.specs.Outcomes.{AreRecovered, prepared_names}
+use Rattle.branch_table.proofs.Found.{xid_turned}
 use Rattle.resource_manager.specs.Managers.{ManagerParts, StandsFor, branches_in}
 use Rattle.resource_manager.proofs.Deciding.{distinct_names}
 use Rattle.resource_manager.proofs.Named.{named_at, named_in}
-use Rattle.resource_manager.proofs.Spending.{flipped}
 use Rattle.resource_manager.proofs.Standing.{bound_in}
 
 -- ---- lists that rise
@@ -239,7 +239,7 @@ module _ (config : Config) (number : ℕ) (m : ManagerParts) (facts : List Fact)
       let distinct = distinct_from listed
       (named_once_filtered prepared m.table.branches (distinct_names (names_of m.table.branches) are.distinct)) in
       rising_same names (put_all [] bound_names)
-      (rising_names names recovered.ascending (IsDistinct-IsPermutation xid_eq flipped listed names recovered.same distinct))
+      (rising_names names recovered.ascending (IsDistinct-IsPermutation xid_eq xid_turned listed names recovered.same distinct))
       (put_rises bound_names [] tt
       (distinct_filtered at (λ bound. is_prepared_view (view facts bound.tx)) (filter_map branch_bound_by facts)
       (votes_named config number facts stands.played)) (λ x h k. absurd k))

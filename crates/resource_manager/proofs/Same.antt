@@ -1,6 +1,6 @@
 -- Facts that lead to the same say the same, whatever is played after them.
 use Rattle.std.proofs.Common.{◌≡◌, ◌∙◌, ℕ, Bool, true, false, not, ◌&&◌, List, [], ◌∷◌, ◌++◌, refl, sym, ap, subst}
-use Rattle.std.proofs.Common.{is_none, append-nil, append_assoc, cond, inl, inr}
+use Rattle.std.proofs.Common.{append-nil, append_assoc, cond, inl, inr}
 use Rattle.std.specs.Prelude.{filter, filter_map, fold}
 use Rattle.std.specs.List.{list_any}
 use Rattle.std.specs.Option.{option_map_or}
@@ -24,16 +24,12 @@ use Rattle.protocol.proofs.Manager.Apart.{bound_is, bound_stored, stored_bound}
 use Rattle.protocol.proofs.Manager.Keys.{names_name}
 use Rattle.protocol.proofs.Manager.Played.{all_play_then, voted_named}
 use Rattle.protocol.proofs.Manager.Views.{prepared_shows}
-use Rattle.resource_manager.specs.Courses.{Stored, stored_in, view_among, vote_among, is_ended_among, begun_in}
+use Rattle.resource_manager.specs.Courses.{stored_in, view_among, begun_in}
 use Rattle.resource_manager.proofs.Begun.{begun_append, seen_after}
-use Rattle.resource_manager.proofs.Kept.{commits_voted, name_spent_same, prepared_earlier, same_filter, spent_begun}
+use Rattle.resource_manager.proofs.Kept.{commits_voted, name_spent_same, prepared_earlier, same_filter, spent_begun, is_new_among}
 use Rattle.resource_manager.proofs.More.{keys_stay, table_more}
 use Rattle.resource_manager.proofs.Pieces.{either, stored_append}
 use Rattle.resource_manager.proofs.Standing.{keys_of_vote}
-
--- whether neither a vote nor an outcome is among these
-abbrev is_new_among : Stored → Bool
-is_new_among s = is_none (vote_among s) && not (is_ended_among s)
 
 -- ---- prepared branches, after more facts
 

@@ -1,21 +1,14 @@
 -- The names that are spent after one more.
-use Rattle.std.proofs.Common.{◌≡◌, ◌∙◌, Bool, true, false, ◌||◌, cond, List, Result, Ok, Err, sym}
+use Rattle.std.proofs.Common.{◌≡◌, ◌∙◌, Bool, true, false, ◌||◌, cond, List, Result, Ok, Err}
 use Rattle.std.specs.Prelude.{OnOk}
 use Rattle.std.specs.Result.{IsOk}
 use Rattle.std.specs.List.{list_any}
-use Rattle.std.proofs.lemmas.Bool.Decides.{same_from_decides}
 use Rattle.xid.specs.Names.{XidParts, xid_eq}
-use Rattle.xid.proofs.Deciding.{xid_decides}
+use Rattle.branch_table.proofs.Found.{xid_turned}
 
 pub on_ok : {T E : Type 0} (r : Result T E) (P : Type 0) → IsOk r → OnOk r P → P
 on_ok (Ok x) P is h = h
 on_ok (Err e) P is h = absurd (cc (is))
-
-pub flipped : (x y : XidParts) → xid_eq x y ≡ xid_eq y x
-flipped x y =
-    let here = xid_decides x y in
-    let there = xid_decides y x in
-    same_from_decides _ _ here ((λ e. sym (there.0 e)), (λ e. there.1 (sym e)))
 
 or_cond : (a b c : Bool) → a ≡ c → cond a true b ≡ (c || b)
 or_cond true b c e = λ i. e i || b
@@ -24,4 +17,4 @@ or_cond false b c e = λ i. e i || b
 pub spends : (names news : List XidParts) (x : XidParts)
     → ((y : XidParts) → list_any (xid_eq y) news ≡ cond (xid_eq x y) true (list_any (xid_eq y) names))
     → (y : XidParts) → list_any (xid_eq y) news ≡ (xid_eq y x || list_any (xid_eq y) names)
-spends names news x updates y = updates y ∙ or_cond (xid_eq x y) (list_any (xid_eq y) names) (xid_eq y x) (flipped x y)
+spends names news x updates y = updates y ∙ or_cond (xid_eq x y) (list_any (xid_eq y) names) (xid_eq y x) (xid_turned x y)

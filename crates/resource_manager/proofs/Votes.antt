@@ -31,12 +31,13 @@ use Rattle.protocol.proofs.Manager.Prepared.{prepared_or_not, names_held_once}
 use Rattle.protocol.proofs.Manager.Views.{prepared_shows, casts_decides}
 use Rattle.branch_table.specs.TableStates.{branch_named}
 use Rattle.branch_table.specs.Outcomes.{AreHindered, CanBePrepared, idle_branch, prepared_branch}
+use Rattle.branch_table.proofs.Found.{view_or_none, view_of_named}
 use Rattle.resource_manager.specs.declared.course.Course.{Course}
 use Rattle.resource_manager.specs.Courses.{Stored, stored_by, view_among, vote_among, is_ended_among, course_in}
 use Rattle.resource_manager.specs.SpentNames.{is_spent_in}
 use Rattle.resource_manager.specs.Managers.{ManagerParts, StandsFor, HasBranch, IsPlayable, branches_in, unspent_branches}
 use Rattle.resource_manager.specs.Playing.{Becomes, IsThere}
-use Rattle.resource_manager.proofs.Named.{named_at, named_in, idle_named, named_idle, shown, view_shown}
+use Rattle.resource_manager.proofs.Named.{named_at, named_in, idle_named, named_idle}
 use Rattle.resource_manager.proofs.More.{voted_then, table_more}
 use Rattle.resource_manager.proofs.Standing.{bound_in, other_in, stands_then}
 use Rattle.resource_manager.proofs.Standing.{then_once}
@@ -180,8 +181,8 @@ module _ (config : Config) (number : ℕ) (m : ManagerParts) (facts : List Fact)
       let one = outer.element in
       let other = names_name one.tx number (bound_named config number facts stands.played one outer.among) in
       let there = bound_in number facts was one other.0 outer.among other.1 in
-      let shows = view_shown m.table.branches other.0
-      ∙ ap shown (stands.branches_are other.0 ∙ named_at all (named_so one.keys other.0) other.0 once there refl) in (
+      let shows = view_of_named m.table.branches other.0
+      ∙ ap view_or_none (stands.branches_are other.0 ∙ named_at all (named_so one.keys other.0) other.0 once there refl) in (
         inner.element,
         Contains-among keys inner.element inner.among,
         (
@@ -206,7 +207,7 @@ module _ (config : Config) (number : ℕ) (m : ManagerParts) (facts : List Fact)
       by : (o : Option Branch) → branch_named m.table.branches is.2.0 ≡ o → is_some_held (bound_branches facts) keys ≡ true
       by None e =
           absurd (both_ways (test no_branch) (none_hinders_use (is_write is.0.act) is.0.key)
-          (sym (ap test (view_shown m.table.branches is.2.0 ∙ ap shown e)) ∙ is.2.2))
+          (sym (ap test (view_of_named m.table.branches is.2.0 ∙ ap view_or_none e)) ∙ is.2.2))
       by (Some b) e =
           let found = named_in all is.2.0 b (sym (stands.branches_are is.2.0) ∙ e) in
           elim (prepared_or_not number facts was b found.0) [
@@ -214,7 +215,7 @@ module _ (config : Config) (number : ℕ) (m : ManagerParts) (facts : List Fact)
                 found_any (λ (bound : Bound). list_any (hindered bound) keys) (bound_branches facts) one.bound one.among
                 (found_any (hindered one.bound) keys is.0 (IsIn-contains keys is.0 is.1)
                 (ap test (λ i. view_by (sym one.state i) (sym one.keys i))
-                ∙ sym (ap test (view_shown m.table.branches is.2.0 ∙ ap shown e)) ∙ is.2.2))
+                ∙ sym (ap test (view_of_named m.table.branches is.2.0 ∙ ap view_or_none e)) ∙ is.2.2))
             | inr own ↦ absurd (subst (λ (bs : List Branch). IsIn bs b) none own)
           ]
 

@@ -15,6 +15,7 @@ use Rattle.std.proofs.lemmas.List.Elements.{filter_map-append}
 use Rattle.slab.specs.Slab.{Slab, get}
 use Rattle.protocol.specs.declared.answers.Answer.{Answer}
 use Rattle.protocol.specs.declared.nodes.NodeId.{NodeId}
+use Rattle.protocol.proofs.Lists.{all_joined}
 use Rattle.serving.specs.declared.group.Item.{Item}
 use Rattle.serving.specs.declared.group.Origin.TheVariants.{Client}
 use Rattle.serving.specs.declared.group.Work.{Work}
@@ -35,7 +36,7 @@ use Rattle.serving.specs.Taking.{after_proof, is_at, items_at, with_ends, GivesP
 use Rattle.serving.specs.Taking.{HoldsUpLast, TakesProof}
 use Rattle.serving.proofs.LifeLemmas.{before_more, life_breaks}
 use Rattle.serving.proofs.LifeLists.{among_none, from_ends}
-use Rattle.serving.proofs.LifeLists.{all_both, all_filter, answered_from, done_all, done_behind, done_open, from_done, from_each}
+use Rattle.serving.proofs.LifeLists.{all_filter, answered_from, done_all, done_behind, done_open, from_done, from_each}
 use Rattle.serving.proofs.LifeLists.{from_lines}
 use Rattle.serving.proofs.LifeLists.{from_served, from_text, lines_two, only_last, own_stage, IsReady, OnlyLast, Zipped}
 use Rattle.serving.proofs.ServedLemmas.{first_at, items_taken, more_at, none_at, not_for, texts_at}
@@ -335,7 +336,7 @@ module _ (who : NodeId) (lock : Option Lock) (key number : ℕ) (came : Stage) (
             (flat_map-append answered_text life.answered more
             ∙ ap (λ (bytes : List ℕ). flat_map answered_text life.answered ++ bytes)
             (from_text terms who key number until lines ones zipped silent));
-        each = all_both (IsTaken who key number) life.answered more life.each (from_each terms who key number until lines ones zipped at);
+        each = all_joined (IsTaken who key number) life.answered more life.each (from_each terms who key number until lines ones zipped at);
         ends = ends_more life.answered more past.heard (from_ends terms until lines ones) life.ends;
         done = done_behind who (own_stage who until own heard.stage) life.answered more
             (done_all who mid.stage life.answered idle life.done)

@@ -14,6 +14,7 @@ use Rattle.std.proofs.lemmas.List.Folds.{list_all-append}
 use Rattle.protocol.specs.declared.answers.Answer.{Answer}
 use Rattle.protocol.specs.declared.nodes.NodeId.{NodeId}
 use Rattle.protocol.specs.declared.requests.Request.{Request}
+use Rattle.protocol.proofs.Lists.{all_joined}
 use Rattle.serving.specs.declared.group.Work.{Work}
 use Rattle.serving.specs.declared.proving.Lock.{Lock}
 use Rattle.serving.specs.declared.stage.Stage.{Stage}
@@ -26,7 +27,7 @@ use Rattle.serving.specs.Lives.{answered_text, end_text, has_answer, is_done, is
 use Rattle.serving.specs.Lives.{IsTaken, StandsBefore}
 use Rattle.serving.specs.Served.{told_text}
 use Rattle.serving.specs.Taking.{with_ends}
-use Rattle.serving.proofs.LifeLists.{all_both, all_parts, among_last, among_more, done_open}
+use Rattle.serving.proofs.LifeLists.{all_parts, among_last, among_more, done_open}
 
 -- ---- what stands before its lines
 
@@ -272,7 +273,7 @@ module _ (who : NodeId) (lock : Option Lock) (key number : ℕ) (came : Stage) (
             ∙ sym (append_assoc greeting (flat_map answered_text (front ++ last ∷ [])) (reply_line answer))
             ∙ ap (λ (list : List Answered). (greeting ++ flat_map answered_text list) ++ reply_line answer) (sym waits.2)
             ∙ ap (λ (text : List ℕ). text ++ reply_line answer) life.output ∙ append_assoc past.sent client.output (reply_line answer);
-        each = all_both (IsTaken who key number) front (ended_now answer now last ∷ []) each.0
+        each = all_joined (IsTaken who key number) front (ended_now answer now last ∷ []) each.0
             (record { at = each.1.0.at; its = each.1.0.its }, tt);
         ends = subst (λ (list : List Heard). AreAmong list (past.heard ++ (answer, now) ∷ []))
             (sym (ended_last answer now front last request until waits.4

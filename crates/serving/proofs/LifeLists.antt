@@ -27,11 +27,6 @@ use Rattle.serving.specs.Taking.{are_free, holds_up, with_ends, HoldsUpLast, IsI
 
 -- ---- what holds of each
 
--- what holds of each of two lists holds of each of both
-pub all_both : {X : Type 0} (P : X → Type 0) (xs ys : List X) → AllByRecursion P xs → AllByRecursion P ys → AllByRecursion P (xs ++ ys)
-all_both P [] ys all more = more
-all_both P (x ∷ xs) ys all more = (all.0, all_both P xs ys all.1 more)
-
 -- and of each of the first, and of each of the second
 pub all_parts : {X : Type 0} (P : X → Type 0) (xs ys : List X) → AllByRecursion P (xs ++ ys) → AllByRecursion P xs × AllByRecursion P ys
 all_parts P [] ys all = (tt, all)

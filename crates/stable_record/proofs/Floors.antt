@@ -1,11 +1,10 @@
 -- A floor's frame is taken again, what is taken was spelled, and no entry's frame is one.
 use Rattle.std.proofs.Common.{◌≡◌, ◌∙◌, ℕ, zero, suc, ◌+◌, ◌<◌, ◌==◌, true, eqb-true, List, [], ◌∷◌, ◌++◌}
 use Rattle.std.proofs.Common.{length, take}
-use Rattle.std.proofs.Common.{Option, Some, None, refl, sym, ap, subst, append_assoc, arith}
+use Rattle.std.proofs.Common.{Option, Some, None, inl, refl, sym, ap, subst, append_assoc, arith}
 use Rattle.std.specs.List.{slice_index_or}
 use Rattle.std.specs.Option.{option_map}
 use Rattle.std.proofs.lemmas.List.{length-append, take_at}
-use Rattle.byteorder.specs.Numbers.{length-bytes_high_first}
 use Rattle.xid.specs.Names.{IsBytes}
 use Rattle.xid.specs.Transactions.{TxParts}
 use Rattle.wire.specs.Grammar.{number_spelling, component_spelling}
@@ -24,11 +23,9 @@ use Rattle.xid.specs.Places.{Place, IsPlace}
 use Rattle.wire.specs.Names.{place_spelling, name_at}
 use Rattle.stable_record.specs.Floors.{IsFloored, body_at, floor_at, floor_body, floor_byte, floor_frame, floor_of, front_of}
 use Rattle.stable_record.specs.Behind.{BeginsWith, IsFloor}
+use Rattle.stable_record.proofs.Lengths.{number_has_4}
 
 -- ---- how long
-
-number_has_4 : (n : ℕ) → length (number_spelling n) ≡ 4
-number_has_4 n = length-bytes_high_first 4 n
 
 pub body_has : (place : Place) → length (floor_body place) ≡ 7 + length place.gtrid
 body_has place =
@@ -208,3 +205,11 @@ floor_stays None bytes all tail valid are_bytes stored = by (floor_at bytes) ref
     by : (o : Option (Place × List ℕ)) → floor_at bytes ≡ o → option_map (λ x. x.0) o ≡ None
     by None e = refl
     by (Some x) e = absurd (none_stored x.0 bytes x.1 all tail (framed x.0 bytes x.1 are_bytes e) stored)
+
+-- no bytes hold no entries
+pub empty_stored : IsStored [] [] []
+empty_stored = (refl, inl (omega arith))
+
+-- and they have no floor
+pub no_floor : (bytes : List ℕ) → bytes ≡ [] → floor_of bytes ≡ None
+no_floor bytes empty = ap floor_of empty ∙ floor_stays None [] [] [] tt (λ i. omega arith) empty_stored

@@ -1,5 +1,5 @@
 -- How long entries are: what a frame's length is, and that no body is longer than one may be.
-use Rattle.std.proofs.Common.{◌≡◌, ℕ, suc, ◌+◌, ◌*◌, ◌≤◌, List, [], ◌∷◌, ◌++◌, length, map, sum, refl, ap, arith}
+use Rattle.std.proofs.Common.{◌≡◌, ◌∙◌, ℕ, suc, ◌+◌, ◌*◌, ◌≤◌, List, [], ◌∷◌, ◌++◌, length, map, sum, refl, ap, arith}
 use Rattle.std.specs.List.{flat_map, All, AllByRecursion}
 use Rattle.std.proofs.lemmas.List.{length-append}
 use Rattle.std.proofs.lemmas.List.Concat.{flat_map-cons}
@@ -21,12 +21,12 @@ use Rattle.stable_record.specs.declared.fact.FactKind.TheVariants.{Committed, Ab
 use Rattle.stable_record.specs.declared.entry.EntryKind.{EntryKind as Entry}
 use Rattle.stable_record.specs.declared.entry.EntryKind.TheVariants.{Snapshot, Row, PastCommitted, PastAborted}
 use Rattle.stable_record.specs.Facts.{IsFact, IsAct, IsTouched, fact_tx}
-use Rattle.stable_record.specs.Frames.{act_length, touched_length, rest_length, frame_length_in}
+use Rattle.stable_record.specs.Frames.{act_length, touched_length, rest_length, frame_length, frame_length_in}
 use Rattle.stable_record.specs.Entries.{IsEntry, IsEntryIn, IsNamedIn, IsInstanceIn}
 use Rattle.stable_record.specs.Grammar.{most_body, value_spelling, act_spelling, touched_spelling, rest_spelling, fields_spelling}
 use Rattle.stable_record.specs.Grammar.{body_spelling, frame}
 
-number_has_4 : (n : ℕ) → length (number_spelling n) ≡ 4
+pub number_has_4 : (n : ℕ) → length (number_spelling n) ≡ 4
 number_has_4 n = length-bytes_high_first 4 n
 
 value_has : (value : List ℕ) → length (value_spelling value) ≡ 2 + length value
@@ -206,3 +206,23 @@ pub written_few : (e : Entry) (xs : List ℕ) → IsEntry e → xs ≡ body_spel
 written_few e xs is same =
     let len : length xs ≡ length (body_spelling version_2 e) = ap length same in
     omega (arith, len, body_few Second e (entry_in_version_2 e is))
+
+-- ---- of the frames of facts
+
+-- how long they are together
+abbrev pub length_of : List Fact → ℕ
+length_of [] = 0
+length_of (fact ∷ facts) = frame_length fact + length_of facts
+
+-- two lists are as long as both
+pub length_both : (xs ys : List Fact) → length_of (xs ++ ys) ≡ length_of xs + length_of ys
+length_both [] ys = omega arith
+length_both (x ∷ xs) ys = omega (arith, length_both xs ys)
+
+-- it is the sum of their lengths
+pub length_sum : (facts : List Fact) → sum (map frame_length facts) ≡ length_of facts
+length_sum [] = refl
+length_sum (fact ∷ facts) =
+    let all : sum (map frame_length (fact ∷ facts)) ≡ frame_length fact + sum (map frame_length facts) =
+    sum_by-cons (λ (n : ℕ). n) (frame_length fact) (map frame_length facts) in
+    all ∙ ap (λ n. frame_length fact + n) (length_sum facts)

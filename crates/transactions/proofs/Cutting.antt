@@ -7,6 +7,7 @@ use Rattle.std.specs.Option.{option_map, option_to_list}
 use Rattle.std.proofs.lemmas.Bool.{true≢false}
 use Rattle.std.proofs.lemmas.List.{length-append, length-drop, length-take-le, take-append-drop, take-append-le, drop-append-le}
 use Rattle.std.proofs.Math.Seq.{take-append_seam, take-length, drop-append_seam}
+use Rattle.wire.proofs.Spelled.{some_same}
 use Rattle.transactions.specs.Cuts.{cuts, AreEnds}
 
 -- ---- the last of a list
@@ -59,15 +60,12 @@ no_cut_at bytes start [] n le = refl
 no_cut_at bytes start (first ∷ ends) zero le = absurd (omega (arith, le))
 no_cut_at bytes start (first ∷ ends) (suc n) le = no_cut_at bytes first ends n (omega (arith, le))
 
-one_number : (a b : ℕ) → Some a ≡ Some b → a ≡ b
-one_number a b e = cc
-
 -- each cut is within the bytes
 pub cut_within : (start : ℕ) (ends : List ℕ) (count n end : ℕ) → AreEnds start ends count → slice_get ends n ≡ Some end
     → (get_or (start ∷ ends) n 0 ≤ end) × (end ≤ count)
 cut_within start [] count n end are e = absurd (cc)
 cut_within start (first ∷ ends) count zero end are e =
-    let is : first ≡ end = one_number first end e in
+    let is : first ≡ end = some_same first end e in
     let rest = ends_within first ends count are.1 in
     (omega (arith, are.0, is), omega (arith, rest, is))
 cut_within start (first ∷ ends) count (suc n) end are e = cut_within first ends count n end are.1 e

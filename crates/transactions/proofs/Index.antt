@@ -10,13 +10,11 @@ use Rattle.std.proofs.lemmas.Bool.{ltb-true, ltb-false, eq-eqb, false_from_ne_tr
 use Rattle.std.proofs.lemmas.List.Elements.{recursion_from_All}
 use Rattle.std.proofs.lemmas.Option.{slice_get_read}
 use mathlib.Core.Logic.{inl, inr}
+use Rattle.wire.proofs.Spelled.{some_same}
 use Rattle.transactions.specs.Found.{is_at, found, or_new, hint_of, other_of, IsFound, IsIndex, IsPlaced}
 use Rattle.transactions.specs.declared.hashed.HashedPlaces.{HashedPlaces}
 use Rattle.hashing.specs.Hashing.{hash_of}
 use Rattle.hashing.specs.declared.keys.WordKey.{WordKey}
-
-one_place : (a b : ℕ) → Some a ≡ Some b → a ≡ b
-one_place a b e = cc
 
 same : (k : List ℕ) → bytes_eq k k ≡ true
 same k = (bytes_decides k k).1 refl
@@ -70,7 +68,7 @@ module _ {K : Type 0} (bytes : K → List ℕ) where
   found_at keys k (Some p) other n told e = by (is_at bytes keys k p) refl e
     where
       by : (b : Bool) → is_at bytes keys k p ≡ b → (if b then Some p else other) ≡ Some n → is_at bytes keys k n ≡ true
-      by true here e = ap (is_at bytes keys k) (sym (one_place p n e)) ∙ here
+      by true here e = ap (is_at bytes keys k) (sym (some_same p n e)) ∙ here
       by false here e = told n e
 
   -- what a hint comes to
@@ -168,7 +166,7 @@ module _ {K : Type 0} (bytes : K → List ℕ) where
 
     -- no two keys have the same bytes
     pub found_apart : IsDistinct (λ a b. bytes_eq (bytes a) (bytes b)) keys
-    found_apart = apart keys (λ k n m a b. one_place n m (sym (own_place k n a) ∙ own_place k m b))
+    found_apart = apart keys (λ k n m a b. some_same n m (sym (own_place k n a) ∙ own_place k m b))
 
   -- ---- one key more
 
@@ -243,7 +241,7 @@ module _ {K : Type 0} (bytes : K → List ℕ) where
         → (o ≡ Some n → is_at bytes keys q n ≡ true) → (c ≡ true → is_at bytes keys q place ≡ true)
         → or_new o (b && c) place ≡ Some n → is_at bytes keys q n ≡ true
     kept keys q (Some p) b c place n old new e = old e
-    kept keys q None true true place n old new e = ap (is_at bytes keys q) (sym (one_place place n e)) ∙ new refl
+    kept keys q None true true place n old new e = ap (is_at bytes keys q) (sym (some_same place n e)) ∙ new refl
     kept keys q None true false place n old new e = absurd (cc)
     kept keys q None false c place n old new e = absurd (cc)
 

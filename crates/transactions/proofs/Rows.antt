@@ -10,16 +10,13 @@ use Rattle.std.proofs.lemmas.List.Sums.{passes_at_first, position_or_len_is, pre
 use Rattle.std.proofs.lemmas.Map.Made.{AllPairs-from_IsDistinct}
 use Rattle.xid.specs.Transactions.{TxParts, tx_eq}
 use Rattle.xid.proofs.Deciding.{tx_self, tx_decides}
-use Rattle.transactions.specs.Seen.{place_in}
+use Rattle.transactions.specs.Seen.{place_in, no_transaction}
 
 -- in front of the end, rows are as they were
 pub front : {X : Type 0} (xs : List X) (x d : X) (k : ℕ) → k < length xs → get_or (xs ++ x ∷ []) k d ≡ get_or xs k d
 front [] x d k lt = absurd (omega arith)
 front (y ∷ xs) x d zero lt = refl
 front (y ∷ xs) x d (suc k) lt = front xs x d k (omega arith)
-
-nobody : TxParts
-nobody = record { format = 0; gtrid = []; branches = [] }
 
 -- a place is within the transactions, or their end
 pub place_le : (ts : List TxParts) (tx : TxParts) → place_in ts tx ≤ length ts
@@ -28,9 +25,9 @@ place_le ts tx = prefix_len-le-length (λ other. not (tx_eq tx other)) ts
 -- two transactions at one place are one
 pub one_at : (ts : List TxParts) (tx other : TxParts) → place_in ts tx < length ts → place_in ts other ≡ place_in ts tx → other ≡ tx
 one_at ts tx other lt e =
-    let of_tx = (tx_decides tx _).0 (passes_at_first (tx_eq tx) ts nobody lt) in
-    let of_other = (tx_decides other _).0 (passes_at_first (tx_eq other) ts nobody (omega (arith, lt, e))) in
-    of_other ∙ ap (λ n. get_or ts n nobody) e ∙ sym of_tx
+    let of_tx = (tx_decides tx _).0 (passes_at_first (tx_eq tx) ts no_transaction lt) in
+    let of_other = (tx_decides other _).0 (passes_at_first (tx_eq other) ts no_transaction (omega (arith, lt, e))) in
+    of_other ∙ ap (λ n. get_or ts n no_transaction) e ∙ sym of_tx
 
 -- a transaction's place is where it stands, where each stands once
 pub number_at : (ts : List TxParts) (n : ℕ) (d : TxParts) → IsDistinct tx_eq ts → n < length ts → place_in ts (get_or ts n d) ≡ n

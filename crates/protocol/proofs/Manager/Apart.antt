@@ -239,7 +239,8 @@ start_unspent : (spent : Bool) (rows : List Row) (shows : BranchView) (busy : Bo
 start_unspent true rows shows busy h = absurd (cc (h))
 start_unspent false rows shows busy h = refl
 
-start_by : (state : Option BranchState) → is_done Start (if is_none state then Code codes.Ok else Code codes.DupId) ≡ true → state ≡ None
+pub start_by : (state : Option BranchState) → is_done Start (if is_none state then Code codes.Ok else Code codes.DupId) ≡ true
+    → state ≡ None
 start_by None h = refl
 start_by (Some state) h = absurd (cc (h))
 
