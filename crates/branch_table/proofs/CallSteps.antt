@@ -38,12 +38,15 @@ use Rattle.branch_table.proofs.Views.{shows_touched}
 pub shown : (bs : List Branch) (x : XidParts) (o : Option Branch) → branch_named bs x ≡ o → view_named bs x ≡ view_or_none o
 shown bs x o e = view_of_named bs x ∙ ap view_or_none e
 
+-- a view is the same as itself
 pub same : (v : BranchView) → SameView v v
 same v = record { state = refl; touched = λ _. refl; count = refl; act = λ _. refl }
 
+-- and as one that is equal
 pub same_from : (v w : BranchView) → v ≡ w → SameView v w
 same_from v w e = subst (λ (u : BranchView). SameView v u) e (same v)
 
+-- other branches show as before
 pub others_shown : (old new : List Branch) (x : XidParts) (w : Option Branch) → ChangesOnly old new x w
     → (y : XidParts) → y ≢ x → view_named new y ≡ view_named old y
 others_shown old new x w only y apart = shown new y _ (only.others y apart) ∙ sym (view_of_named old y)
@@ -105,13 +108,16 @@ keyless_answers t x action o answer keyless found e = (
 
 -- ---- start
 
+-- a start of a branch that exists
 pub start_exists : (t : TableState) (x : XidParts) (b : Branch) → branch_named t.branches x ≡ Some b → Steps t t x Start (Code code.DupId)
 start_exists t x b found =
     undone_steps t x Start (Code code.DupId) refl (keyless_answers t x Start (Some b) (Code code.DupId) (λ _. refl) found refl)
 
+-- a branch that was started
 abbrev pub started_branch : XidParts → Branch
 started_branch x = record { xid = x; state = BranchState.Active; keys = [] }
 
+-- a start
 pub start_done : (old new : TableState) (x : XidParts) → branch_named old.branches x ≡ None
     → ChangesOnly old.branches new.branches x (Some (started_branch x)) → new.rows ≡ old.rows
     → Steps old new x Start (Code code.Ok)
@@ -138,6 +144,7 @@ active_answer BranchState.Idle a b c e = absurd (cc (e))
 active_answer BranchState.RollbackOnly a b c e = absurd (cc (e))
 active_answer BranchState.Prepared a b c e = absurd (cc (e))
 
+-- an end of a branch that doesn't exist
 pub end_absent : (t : TableState) (x : XidParts) (e : Ending) → branch_named t.branches x ≡ None
     → Steps t t x (end_action e) (Code code.Nota)
 end_absent t x ending.Success none =
@@ -145,6 +152,7 @@ end_absent t x ending.Success none =
 end_absent t x ending.Fail none =
     undone_steps t x EndFail (Code code.Nota) refl (keyless_answers t x EndFail None (Code code.Nota) (λ _. refl) none refl)
 
+-- of one that has ended
 pub end_ended : (t : TableState) (x : XidParts) (e : Ending) (b : Branch) → branch_named t.branches x ≡ Some b → is_active b.state ≡ false
     → Steps t t x (end_action e) (Code code.Proto)
 end_ended t x ending.Success b found ended =
@@ -161,6 +169,7 @@ in_another : (b : Branch) (s : BranchState)
     (record { state = Some s; touched = λ key. has_key key b.keys; count = length b.keys; act = act_on b.keys })
 in_another b s = record { state = refl; touched = λ _. refl; count = refl; act = λ _. refl }
 
+-- an end
 pub end_done : (old new : TableState) (x : XidParts) (e : Ending) (b : Branch) → branch_named old.branches x ≡ Some b
     → is_active b.state ≡ true
     → ChangesOnly old.branches new.branches x (Some (in_state (end_state e) b)) → new.rows ≡ old.rows
@@ -190,16 +199,19 @@ ended_rollback BranchState.Idle e = refl
 ended_rollback BranchState.RollbackOnly e = refl
 ended_rollback BranchState.Prepared e = absurd (cc (e))
 
+-- a rollback of a branch that doesn't exist
 pub rollback_absent : (t : TableState) (x : XidParts) → branch_named t.branches x ≡ None → Steps t t x Rollback (Code code.Nota)
 rollback_absent t x none =
     undone_steps t x Rollback (Code code.Nota) refl (keyless_answers t x Rollback None (Code code.Nota) (λ _. refl) none refl)
 
+-- of one that can't be rolled back
 pub rollback_refused : (t : TableState) (x : XidParts) (b : Branch) → branch_named t.branches x ≡ Some b
     → can_be_rolled_back b.state ≡ false → Steps t t x Rollback (Code code.Proto)
 rollback_refused t x b found e =
     undone_steps t x Rollback (Code code.Proto) refl
     (keyless_answers t x Rollback (Some b) (Code code.Proto) (λ _. refl) found (no_rollback b.state e))
 
+-- a rollback
 pub rollback_done : (old new : TableState) (x : XidParts) (b : Branch) → branch_named old.branches x ≡ Some b
     → can_be_rolled_back b.state ≡ true → ChangesOnly old.branches new.branches x None → new.rows ≡ old.rows
     → Steps old new x Rollback (Code code.Ok)
@@ -223,9 +235,11 @@ module _ (bs : List Branch) (x : XidParts) (writes : Bool) (key : List ℕ) wher
       → touch_answer (view_named bs x) busy key admitted ≡ touch_answer (view_or_none o) busy key admitted
   touch_by busy o admitted found = ap (λ v. touch_answer v busy key admitted) (shown bs x o found)
 
+  -- a call about a key of a branch that doesn't exist
   pub denies_absent : (busy : Bool) → IsBusy busy → branch_named bs x ≡ None → Admits bs x writes key (Err (Code code.Nota))
   denies_absent busy is none = λ admitted. (busy, is, touch_by busy None admitted none)
 
+  -- of one that has ended
   pub denies_ended : (busy : Bool) (b : Branch) → IsBusy busy → branch_named bs x ≡ Some b → is_active b.state ≡ false
       → Admits bs x writes key (Err (Code code.Proto))
   denies_ended busy b is found ended = λ admitted.
@@ -236,10 +250,12 @@ module _ (bs : List Branch) (x : XidParts) (writes : Bool) (key : List ℕ) wher
   active_touch busy b admitted found active =
       touch_by busy (Some b) admitted found ∙ active_answer b.state (Code code.Nota) _ (Code code.Proto) active
 
+  -- of one that another hinders
   pub denies_hindered : (b : Branch) → IsBusy true → branch_named bs x ≡ Some b → is_active b.state ≡ true
       → Admits bs x writes key (Err (Refused Busy))
   denies_hindered b is found active = λ admitted. (true, is, active_touch true b admitted found active)
 
+  -- of one that has no room
   pub denies_full : (b : Branch) → IsBusy false → branch_named bs x ≡ Some b → is_active b.state ≡ true → has_room b key ≡ false
       → Admits bs x writes key (Err (Refused Full))
   denies_full b is found active full = λ admitted.
@@ -248,6 +264,7 @@ module _ (bs : List Branch) (x : XidParts) (writes : Bool) (key : List ℕ) wher
   not_hindered : IsBusy false → IsHindered (hinders_use writes key) (view_named bs) x → ⊥
   not_hindered is hindered = both_ways false refl (is.1 hindered)
 
+  -- and one that is admitted
   pub admits : (b : Branch) (own : Hold) → IsBusy false → branch_named bs x ≡ Some b → is_active b.state ≡ true → has_room b key ≡ true
       → AreAscending b.keys → own ≡ hold_of b.keys key → Admits bs x writes key (Ok own)
   admits b own is found active room up held =
@@ -272,6 +289,7 @@ pub record IsKeyCall (rows : List Row) (v : BranchView) (action : Action) (key :
   pub leaves : (w : BranchView) → view_after_done w action ≡ view_with_act w key act
   pub branch : (o : Option Branch) (x : XidParts) → option_map (with_act key act) o ≡ branch_done o x action
 
+-- a put
 pub put_call : (rows : List Row) (v : BranchView) (key value : List ℕ) → (key_fits key && value_fits value) ≡ true
     → IsKeyCall rows v (Put key value) key (Act.Put value) (Code code.Ok)
 put_call rows v key value fits = record {
@@ -283,6 +301,7 @@ put_call rows v key value fits = record {
   branch = λ o x. refl;
 }
 
+-- a delete
 pub del_call : (rows : List Row) (v : BranchView) (key : List ℕ) → key_fits key ≡ true
     → IsKeyCall rows v (Del key) key Act.Del (Code code.Ok)
 del_call rows v key fits = record {
@@ -298,6 +317,7 @@ found_done : (key : List ℕ) (o : Option (List ℕ)) → is_done (Get key) (get
 found_done key (Some bytes) = refl
 found_done key None = refl
 
+-- a get
 pub get_call : (rows : List Row) (v : BranchView) (key : List ℕ) → key_fits key ≡ true
     → IsKeyCall rows v (Get key) key Act.Read (get_answer (read_of rows v key))
 get_call rows v key fits = record {
@@ -382,6 +402,7 @@ key_done {action} {key} {act} {answer} old new x call admitted touched =
 
 -- ---- no key is held by two branches of which one has written it
 
+-- branches stay apart, where what one holds now no other holds
 pub apart_after : (old new : XidParts → BranchView) (x : XidParts) → AreHeldApart old → ((y : XidParts) → y ≢ x → new y ≡ old y)
     → ((y : XidParts) → y ≢ x → (key : List ℕ) → is_write ((new x).act key) ≡ true → (old y).touched key ≡ false)
     → ((y : XidParts) → y ≢ x → (key : List ℕ) → is_write ((old y).act key) ≡ true → (new x).touched key ≡ false)
@@ -411,6 +432,7 @@ written_touched (Some b) key e = by (has_key key b.keys) refl
     by true h = h
     by false h = absurd (both_ways _ (ap is_write (untouched b.keys key h)) e)
 
+-- a key that a branch has written is one that it has touched
 pub shows_written : (bs : List Branch) (y : XidParts) (key : List ℕ) → is_write ((view_named bs y).act key) ≡ true
     → (view_named bs y).touched key ≡ true
 shows_written bs y key e =

@@ -47,6 +47,7 @@ abbrev pub view_or_none : Option Branch → BranchView
 view_or_none None = no_branch
 view_or_none (Some branch) = view_by branch.state branch.keys
 
+-- a branch shows as the look-up of its name says
 pub view_of_named : (bs : List Branch) (x : XidParts) → view_named bs x ≡ view_or_none (branch_named bs x)
 view_of_named [] x = refl
 view_of_named (b ∷ bs) x = by (xid_eq b.xid x) (view_of_named bs x)
@@ -185,9 +186,11 @@ pub names_of : (es : Entries) → map (λ branch. branch.xid) (branches_of es) �
 names_of [] = refl
 names_of (e ∷ es) = ap (λ xs. e.0 ∷ xs) (names_of es)
 
+-- entries of different keys are branches of different names
 pub distinct_names : (es : Entries) → IsDistinct xid_eq (keys_of es) → IsDistinct xid_eq (map (λ branch. branch.xid) (branches_of es))
 distinct_names es distinct = subst (IsDistinct xid_eq) (sym (names_of es)) distinct
 
+-- what is found of an entry is the branch of its course
 pub copied_map : (x : XidParts) (r : Option (Bor Course))
     → option_map (λ branch. branch_of x branch.now) r ≡ option_map (branch_of x) (option_copied r)
 copied_map x None = refl
@@ -197,6 +200,7 @@ none_mapped : (x : XidParts) (o : Option Course) → option_map (branch_of x) o 
 none_mapped x None e = refl
 none_mapped x (Some c) e = absurd (cc (e))
 
+-- a branch that doesn't exist has no entry
 pub no_entry : (es : Entries) (x : XidParts) → branch_named (branches_of es) x ≡ None → lookup (xid_eq x) es ≡ None
 no_entry es x e = none_mapped x (lookup (xid_eq x) es) (sym (named_from es x) ∙ e)
 
@@ -204,6 +208,7 @@ no_entry es x e = none_mapped x (lookup (xid_eq x) es) (sym (named_from es x) �
 abbrev pub Updated : (old new : Entries) → XidParts → Option Course → Type 0
 Updated old new x w = (lookup (xid_eq x) new ≡ w) × ((y : XidParts) → xid_eq x y ≡ false → lookup (xid_eq y) new ≡ lookup (xid_eq y) old)
 
+-- one branch more
 pub pushed : (old new : Entries) (x : XidParts) (v : Course) → branch_named (branches_of old) x ≡ None → new ≡ old ++ (x, v) ∷ []
     → Updated old new x (Some v) → IsDistinct xid_eq (keys_of new)
     → Replaces (branches_of old) (branches_of new) x None (Some (branch_of x v))
@@ -215,6 +220,7 @@ pushed old new x v none is updated distinct = record {
       ap (λ (es : Entries). uses_in writes key (branches_of es) + 0) is ∙ counts_pushed writes key old (x, v);
 }
 
+-- one branch less
 pub removed : (old new : Entries) (x : XidParts) → new ≡ swap_remove_entry (xid_eq x) old → Updated old new x None
     → IsDistinct xid_eq (keys_of new) → Replaces (branches_of old) (branches_of new) x (branch_named (branches_of old) x) None
 removed old new x is updated distinct = record {
@@ -248,6 +254,7 @@ pub found_some : (x : XidParts) (r : Option (Bor Course)) (bs : List Branch) →
 found_some x (Some b) bs is found = (branch_of x b.now, sym found)
 found_some x None bs is found = absurd (cc (is))
 
+-- where a look-up finds nothing, no branch has the name
 pub found_none : (x : XidParts) (r : Option (Bor Course)) (bs : List Branch) → is_some r ≡ false
     → option_map (λ branch. branch_of x branch.now) r ≡ branch_named bs x → branch_named bs x ≡ None
 found_none x (Some b) bs is found = absurd (cc (is))

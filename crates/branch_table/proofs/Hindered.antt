@@ -22,6 +22,7 @@ view_absent (b ∷ bs) x e =
     let parts = or_parts (is_of x b) (list_any (is_of x) bs) e in
     rw parts.0 (view_absent bs x parts.1)
 
+-- where no branch has a name, none is found
 pub named_absent : (bs : List Branch) (x : XidParts) → list_any (is_of x) bs ≡ false → branch_named bs x ≡ None
 named_absent [] x e = refl
 named_absent (b ∷ bs) x e =
@@ -35,6 +36,7 @@ absent_after (c ∷ bs) x apart =
     or_from (is_of x c) (list_any (is_of x) bs) (xid_other c.xid x (λ e. xid_apart x c.xid apart.0 (sym e)))
     (absent_after bs x apart.1)
 
+-- where the first branch has it, no later one does
 pub none_later : (c : Branch) (bs : List Branch) (x : XidParts) → IsDistinct xid_eq (names_of (c ∷ bs)) → is_of x c ≡ true
     → list_any (is_of x) bs ≡ false
 unfolding IsDistinct
@@ -45,6 +47,7 @@ absent_own : (c : Branch) (bs : List Branch) (x : XidParts) → IsDistinct xid_e
     → view_named bs x ≡ no_branch
 absent_own c bs x distinct own = view_absent bs x (none_later c bs x distinct own)
 
+-- the names of the rest are different too
 pub distinct_tail : (b : Branch) (bs : List Branch) → IsDistinct xid_eq (names_of (b ∷ bs)) → IsDistinct xid_eq (names_of bs)
 unfolding IsDistinct
 distinct_tail b bs distinct = distinct.1
@@ -91,6 +94,7 @@ module _ (writes : Bool) (key : List ℕ) where
   own_tail : (b : Branch) (bs : List Branch) (x : XidParts) → xid_eq b.xid x ≡ false → own (b ∷ bs) x ≡ own bs x
   own_tail b bs x e = ap (λ t. uses_of writes key (cond t (Some b) (branch_named bs x))) e
 
+  -- what the own branch uses of a key is among all uses
   pub own_within : (bs : List Branch) (x : XidParts) → own bs x ≤ uses bs
   own_within [] x = omega arith
   own_within (b ∷ bs) x = by (xid_eq b.xid x) refl (own_within bs x)

@@ -15,6 +15,7 @@ not_less Less e = absurd (cc (e))
 not_less Equal e = refl
 not_less Greater e = refl
 
+-- rows whose neighbours ascend are sorted
 pub up_sorted : (rows : List Row) (answer : Bool)
     → IsAllAdjacentAnswer (λ (one other : Row) (b : Bool). b ≡ is_ge (slice_cmp nat_cmp other.key one.key)) rows answer
     → answer ≡ true → IsSortedByKey (λ (row : Row). row.key) (slice_cmp nat_cmp) rows
@@ -22,6 +23,7 @@ up_sorted rows false up e = absurd (cc (e))
 up_sorted rows true up e =
     λ k d le lt. not_less (slice_cmp nat_cmp (get_or rows (k + 1) d).key (get_or rows k d).key) (up k d lt)
 
+-- where they descend, the rows read backwards are
 pub down_sorted : (rows : List Row) (answer : Bool)
     → IsAllAdjacentAnswer (λ (one other : Row) (b : Bool). b ≡ is_ge (slice_cmp nat_cmp one.key other.key)) rows answer
     → answer ≡ true → IsSortedByKey (λ (row : Row). row.key) (slice_cmp nat_cmp) (reverse rows)

@@ -62,6 +62,7 @@ pub record IsKeyPlace (keys : List Touched) (key : List ℕ) (i : ℕ) (t : Touc
   pub up : is_up_to key t ≡ true
   pub before : (k : ℕ) → k < i → is_up_to key (get_or keys k t) ≡ false
 
+-- the first key that is not below this one is at its place
 pub key_placed : (keys : List Touched) (key : List ℕ) (i : ℕ) (t : Touched) → position (is_up_to key) keys ≡ Some i → t ≡ get_or keys i t
     → IsKeyPlace keys key i t
 key_placed keys key i t e read =

@@ -17,6 +17,7 @@ abbrev pub idle_of : Option Branch → Option (List Touched)
 idle_of None = None
 idle_of (Some branch) = cond (is_idle branch.state) (Some branch.keys) None
 
+-- the keys of an idle branch are those of the branch that is found
 pub idle_from : (bs : List Branch) (x : XidParts) → IsDistinct xid_eq (names_of bs) → idle_keys bs x ≡ idle_of (branch_named bs x)
 idle_from [] x distinct = refl
 idle_from (b ∷ bs) x distinct =
@@ -40,6 +41,7 @@ idle_from (b ∷ bs) x distinct =
 pub keys_found : (bs : List Branch) (x : XidParts) (b : Branch) → branch_named bs x ≡ Some b → keys_named bs x ≡ b.keys
 keys_found bs x b e = rw e refl
 
+-- where no branch is found there are no keys
 pub keys_none : (bs : List Branch) (x : XidParts) → branch_named bs x ≡ None → keys_named bs x ≡ []
 keys_none bs x e = rw e refl
 

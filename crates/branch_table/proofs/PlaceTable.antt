@@ -24,6 +24,7 @@ use Rattle.stable_record.specs.Facts.{IsKey, IsAct}
 use Rattle.branch_table.proofs.RowLimits.{row_fits}
 use Rattle.branch_table.proofs.TableRows.{flipped, table_after}
 
+-- what is known of each key: its value and its holders
 abbrev pub Known : Type 0
 Known = List (List ℕ × Place)
 
@@ -35,6 +36,7 @@ module _ {K : Type 0} (f : K → List ℕ) where
   abbrev pub Entries : Type 0
   Entries = List (K × Place)
 
+  -- what is known by entries
   abbrev pub known : Entries → Known
   known es = map (λ entry. (f entry.0, entry.1)) es
 
@@ -45,6 +47,7 @@ module _ {K : Type 0} (f : K → List ℕ) where
   looked_up q [] = refl
   looked_up q (e ∷ es) = ap (λ o. cond (bytes_eq q (f e.0)) (Some e.1) o) (looked_up q es)
 
+  -- what is known of a key is what its entry says
   pub place_is : (q : List ℕ) (es : Entries) → place_at (known es) q ≡ unwrap_or (lookup (λ k. bytes_eq q (f k)) es) no_place
   place_is q es = ap (λ o. unwrap_or o no_place) (looked_up q es)
 
@@ -113,6 +116,7 @@ at_key : (old new : Known) (key other : List ℕ) (p : Place) → SetsPlace old 
     → (b : Bool) → bytes_eq key other ≡ b → place_at new other ≡ cond b p (place_at old other)
 at_key old new key other p is b e = is other ∙ ap (λ (t : Bool). cond t p (place_at old other)) e
 
+-- a place with more holders adds them
 pub adds : (old new : Known) (key : List ℕ) (more : Hold) → SetsPlace old new key (place_and (place_at old key) more)
     → AddsHolders old new key more
 adds old new key more is = λ writes other. by other (bytes_eq key other) refl writes
@@ -128,6 +132,7 @@ adds old new key more is = λ writes other. by other (bytes_eq key other) refl w
     by other false e writes =
         ap (λ (p : Place). uses_held writes p.hold) (at_key old new key other (place_and (place_at old key) more) is false e)
 
+-- one with fewer takes them
 pub takes : (old new : Known) (key : List ℕ) (act : Act) (fewer : Hold) → SetsPlace old new key (place_left (place_at old key) act fewer)
     → TakesHolders old new key fewer
 takes old new key act fewer is = λ writes other. by other (bytes_eq key other) refl writes
@@ -153,6 +158,7 @@ with_hold p sum more is = λ i. record { value = p.value; hold = is i }
 abbrev pub held_first : Hold → Place
 held_first more = record { value = None; hold = more }
 
+-- the first holders of a key
 pub first_and : (more : Hold) → held_first more ≡ place_and no_place more
 first_and more =
     let touched : more.touched_by ≡ 0 + more.touched_by = omega arith in
@@ -214,14 +220,17 @@ pub kept_on_err : {X : Type 0} (r : Result (Unit {0}) Refusal) (a b : X) → is_
 kept_on_err (Ok u) a b is given = absurd (cc (is))
 kept_on_err (Err e) a b is given = given.1
 
+-- what holds where a call was done, where it was
 pub given_on_ok : (r : Result (Unit {0}) Refusal) (P : Type 0) → is_err r ≡ false → OnOk r P → P
 given_on_ok (Ok u) P is given = given
 given_on_ok (Err e) P is given = absurd (cc (is))
 
+-- and what follows from it
 pub on_ok : (r : Result (Unit {0}) Refusal) (P Q : Type 0) → (P → Q) → OnOk r P → OnOk r Q
 on_ok (Ok u) P Q f given = f given
 on_ok (Err e) P Q f given = tt
 
+-- what follows where it was refused
 pub on_err : (r : Result (Unit {0}) Refusal) (P Q : Type 0) → (P → Q) → IfErr r (λ e. (e ≡ NoMemory) × P)
     → IfErr r (λ e. (e ≡ NoMemory) × Q)
 on_err (Ok u) P Q f given = tt
@@ -232,12 +241,14 @@ pub nothing : {X : Type 0} (o : Option X) → is_some o ≡ false → o ≡ None
 nothing None e = refl
 nothing (Some x) e = absurd (cc (e))
 
+-- and what holds then
 pub given_on_err : (r : Result (Unit {0}) Refusal) (P : Type 0) → is_err r ≡ true → IfErr r (λ e. (e ≡ NoMemory) × P) → P
 given_on_err (Ok u) P is given = absurd (cc (is))
 given_on_err (Err e) P is given = given.1
 
 -- ---- keys that are let go one after the other
 
+-- a touched key is among the touched
 pub own_key : (t : Touched) (rest : List Touched) → has_key t.key (t ∷ rest) ≡ true
 own_key t rest = ap (λ b. b || has_key t.key rest) ((bytes_eq-Decides t.key t.key).1 refl)
 

@@ -158,6 +158,7 @@ sorted_ascend (row ∷ next ∷ rows) sorted apart =
     (sorted (suc k) d (omega arith) (omega (arith, lt)))) apart.1 in
     ((less, before_more row.key next.key rows less rest.0), rest)
 
+-- sorted by their keys, the rows of places are the table
 pub sorted_table : (places : Known) (sorted : List Row) → IsDistinct bytes_eq (keys_known places)
     → IsPermutation (rows_in places) sorted → IsSortedByKey (λ (row : Row). row.key) (slice_cmp nat_cmp) sorted → sorted ≡ table_of places
 sorted_table places sorted apart moved ordered =

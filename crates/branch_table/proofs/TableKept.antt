@@ -203,6 +203,7 @@ apart_prepared old new x keys apart free is =
     by key y differ written false h true w = h
     by key y differ written false h false w = h
 
+-- a branch that was prepared keeps it so
 pub kept_prepared : (holds after : Known) (old new : List Branch) (x : XidParts) (keys : List Touched) → IsKept holds old
     → (AreHindered old x keys → ⊥) → Replaces old new x None (Some (prepared_branch x keys))
     → ((writes : Bool) (key : List ℕ)

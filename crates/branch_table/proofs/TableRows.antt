@@ -36,6 +36,7 @@ abbrev pub AscendRows : List Row → Type 0
 AscendRows [] = Unit {0}
 AscendRows (row ∷ rows) = IsBefore row.key rows × AscendRows rows
 
+-- what stands in front of a key stands in front of a greater one
 pub before_more : (key other : List ℕ) (rows : List Row) → slice_cmp nat_cmp key other ≡ Less → IsBefore other rows → IsBefore key rows
 before_more key other [] less are = tt
 before_more key other (row ∷ rows) less are =
@@ -87,10 +88,12 @@ after_ascends rows key Act.Read are = are
 after_ascends rows key (Act.Put value) are = put_ascends rows (record { key = key; value = value }) are
 after_ascends rows key Act.Del are = taken_ascends (λ (row : Row). not (bytes_eq row.key key)) rows are
 
+-- rows ascend after writes
 pub writes_ascend : (rows : List Row) (keys : List Touched) → AscendRows rows → AscendRows (with_writes rows keys)
 writes_ascend rows [] are = are
 writes_ascend rows (t ∷ keys) are = writes_ascend (rows_after rows t.key t.act) keys (after_ascends rows t.key t.act are)
 
+-- and after rows that were put one by one
 pub first_ascend : (rows first : List Row) → AscendRows rows → AscendRows (fold put_row rows first)
 first_ascend rows [] are = are
 first_ascend rows (row ∷ first) are = first_ascend (put_row rows row) first (put_ascends rows row are)
@@ -153,6 +156,7 @@ taken_there (row ∷ rows) gone key =
     hidden true x rest = refl
     hidden false x rest = refl
 
+-- what a row has after a write
 pub after_there : (rows : List Row) (key : List ℕ) (act : Act) (k : List ℕ) → AscendRows rows
     → row_at (rows_after rows key act) k ≡ cond (bytes_eq key k) (value_after act (row_at rows k)) (row_at rows k)
 after_there rows key Act.Read k are = either_way (bytes_eq key k) (row_at rows k)
@@ -191,6 +195,7 @@ own_there : (row : Row) (rows : List Row) → row_at (row ∷ rows) row.key ≡ 
 own_there row rows =
     ap (λ (b : Bool). cond b (Some row.value) (row_at rows row.key)) ((bytes_eq-Decides row.key row.key).1 refl)
 
+-- ascending rows that have the same at each key are the same
 pub same_rows : (rows others : List Row) → AscendRows rows → AscendRows others → ((k : List ℕ) → row_at rows k ≡ row_at others k) → rows
     ≡ others
 same_rows [] [] are also same = refl
@@ -235,6 +240,7 @@ same_rows (row ∷ rows) (other ∷ others) are also same =
 
 -- ---- the rows among places
 
+-- the test of keys reads both ways
 pub flipped : (x y : List ℕ) → bytes_eq x y ≡ bytes_eq y x
 flipped x y =
     let here = bytes_eq-Decides x y in
@@ -244,10 +250,12 @@ flipped x y =
 abbrev Known : Type 0
 Known = List (List ℕ × Place)
 
+-- the table of places ascends
 pub table_ascends : (places : Known) → AscendRows (table_of places)
 table_ascends [] = tt
 table_ascends (place ∷ places) = after_ascends (table_of places) place.0 (act_to place.1.value) (table_ascends places)
 
+-- the value of a key among places, by the first of them
 pub first_value : (place : List ℕ × Place) (places : Known) (key : List ℕ)
     → (place_at (place ∷ places) key).value ≡ cond (bytes_eq key place.0) place.1.value (place_at places key).value
 first_value place places key = by (bytes_eq key place.0)

@@ -61,6 +61,7 @@ write_more Act.Del Act.Read = refl
 write_more Act.Del (Act.Put v) = refl
 write_more Act.Del Act.Del = refl
 
+-- what is used of a key after one act more
 pub more_uses : (writes : Bool) (q : List ℕ) (keys : List Touched) (key : List ℕ) (act : Act) → AreAscending keys
     → uses_by writes q (with_touched keys key act)
     ≡ cond (bytes_eq key q) (uses_by writes q keys + uses_held writes (hold_more keys key act)) (uses_by writes q keys)
@@ -85,6 +86,7 @@ more_uses false q keys key act up = ap (λ a. one (is_write a)) (acts_touched ke
 
 -- ---- one key after the other
 
+-- by the first touched key, and the rest
 pub first_uses : (writes : Bool) (q : List ℕ) (t : Touched) (keys : List Touched) → AreAscending (t ∷ keys)
     → uses_by writes q (t ∷ keys) ≡ uses_by writes q keys + cond (bytes_eq t.key q) (uses_held writes (hold_by t.act)) 0
 first_uses true q t keys up = by (bytes_eq t.key q) refl
@@ -106,6 +108,7 @@ first_uses false q t keys up = by (bytes_eq t.key q) refl
         omega (arith, nothing)
     by false e = omega arith
 
+-- no touched key uses nothing
 pub uses_none : (writes : Bool) (q : List ℕ) → uses_by writes q [] ≡ 0
 uses_none true q = refl
 uses_none false q = refl
@@ -116,6 +119,7 @@ drop_ascends [] (suc n) up = up
 drop_ascends (t ∷ keys) zero up = up
 drop_ascends (t ∷ keys) (suc n) up = drop_ascends keys n (tail_ascends t keys up)
 
+-- the first of touched keys that ascend do too
 pub take_ascends : (keys : List Touched) (n : ℕ) → AreAscending keys → AreAscending (take n keys)
 take_ascends [] zero up = tt
 take_ascends [] (suc n) up = tt
@@ -157,9 +161,11 @@ pub hold_step : (h g u v a z : ℕ) (b : Bool) → h ≡ cond b (g + a) g → u 
 hold_step h g u v a z true is split e = omega (arith, is, split, e)
 hold_step h g u v a z false is split e = omega (arith, is, split, e)
 
+-- looks behind looks
 pub looks_more : (before n m : ℕ) → looks_after (looks_after before n) m ≡ looks_after before (n + m)
 looks_more before n m = omega arith
 
+-- no look changes nothing
 pub looks_none : (before : ℕ) → before < 2 ^ 64 → before ≡ looks_after before 0
 looks_none before lt = omega (arith, lt)
 
@@ -213,6 +219,7 @@ pub own_hold : (writes : Bool) (keys : List Touched) (key : List ℕ) → uses_h
 own_hold true keys key = refl
 own_hold false keys key = refl
 
+-- a key that is free is used by nobody
 pub no_hold : (writes : Bool) → uses_held writes free ≡ 0
 no_hold true = refl
 no_hold false = refl
@@ -253,6 +260,7 @@ pub hold_by_act : (keys : List Touched) (key : List ℕ) (act : Act) → act ≡
 hold_by_act keys key act is there =
     λ i. record { touched_by = one (sym there i); written_by = one (is_write (is i)) }
 
+-- a key that isn't touched is held free
 pub hold_of_none : (keys : List Touched) (key : List ℕ) → act_on keys key ≡ Act.Read → has_key key keys ≡ false
     → free ≡ hold_of keys key
 hold_of_none keys key is none =

@@ -13,6 +13,7 @@ use Rattle.protocol.specs.Managers.{Branch, view_by, view_named, is_hindered, wi
 use Rattle.protocol.proofs.TouchedKeys.{has_touched, counts_touched, acts_touched}
 use Rattle.branch_table.specs.OneCall.{SameView, view_with_act}
 
+-- whether a branch has a name
 abbrev pub is_of : XidParts → Branch → Bool
 is_of x branch = xid_eq branch.xid x
 
@@ -37,6 +38,7 @@ ShowsOnly-cons c old new x v other shows = record {
   others = λ y apart. ap (λ (w : BranchView). cond (is_of y c) (view_of c) w) (shows.others y apart);
 }
 
+-- one branch more shows, and the others as before
 pub shows_push : (bs : List Branch) (new : Branch) → list_any (is_of new.xid) bs ≡ false
     → ShowsOnly bs (bs ++ new ∷ []) new.xid (view_of new)
 shows_push [] new absent = record {
@@ -57,6 +59,7 @@ none_hinders End = refl
 none_hinders EndFail = refl
 none_hinders Rollback = refl
 
+-- no branch hinders nobody
 pub none_hinders_use : (writes : Bool) (key : List ℕ) → hinders_use writes key no_branch ≡ false
 none_hinders_use true key = refl
 none_hinders_use false key = refl
@@ -76,6 +79,7 @@ module _ (test : BranchView → Bool) (none : test no_branch ≡ false) where
       or_left (is_other x b) (list_any (is_other x) bs) (ap (λ (t : Bool). not t && test (view_of b)) other ∙ here))
       (λ other later. or_right (is_other x b) (list_any (is_other x) bs) (hindered_to bs x y apart later)) shown
 
+-- a branch shows one act more
 pub shows_touched : (b : Branch) (key : List ℕ) (act : Act) → AreAscending b.keys
     → SameView (view_of (record b { keys = with_touched b.keys key act })) (view_with_act (view_of b) key act)
 shows_touched b key act ascending = record {

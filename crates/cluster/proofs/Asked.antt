@@ -43,6 +43,7 @@ viewed_as old was new is rm tx result views =
     subst (λ (p : ClusterParts). (config : Config) (world : FlooredWorld) → ClusterStands config p world
     → ViewsIn config world p new rm tx result) is views
 
+-- a table of a cluster is one of an equal cluster
 pub tabled_as : (old was new : ClusterParts) → old ≡ was → (rm : ℕ) (result : Result (List Row) Refusal)
     → ((config : Config) (world : FlooredWorld) → ClusterStands config old world → TablesIn config world old new rm result)
     → (config : Config) (world : FlooredWorld) → ClusterStands config was world → TablesIn config world was new rm result
@@ -66,6 +67,7 @@ module _ (config : Config) (world : FlooredWorld) (sizes : Sizes) (nodes : List 
   none_said Says result e =
       subst (λ (o : Option NodeState). IsSaid config (R rm) cluster cluster Says o result) (sym none) (refl, e)
 
+  -- a view of a node that isn't there
   pub no_view : (tx : TxParts) (result : Result View Refusal) → result ≡ Err Refusal.NoSuch
       → ViewsIn config world cluster cluster rm tx result
   no_view tx result e = record {
@@ -74,6 +76,7 @@ module _ (config : Config) (world : FlooredWorld) (sizes : Sizes) (nodes : List 
     says = none_said (λ m. SaysFlooredView config (R rm) (world.floor (R rm)) m.facts tx result) result e;
   }
 
+  -- a table of one
   pub no_table : (result : Result (List Row) Refusal) → result ≡ Err Refusal.NoSuch → TablesIn config world cluster cluster rm result
   no_table result e = record {
     same = unchanged cluster cluster refl refl;
@@ -153,6 +156,7 @@ module _ (config : Config) (world : FlooredWorld) (sizes : Sizes) (nodes : List 
             (subst (λ (x : FlooredParts). IsUnread x.node.held new.node.held x.node.role result) read unread);
       })
 
+  -- a view of a node is the cluster's
   pub view_said : (tx : TxParts) (result : Result View Refusal)
       → ((config : Config) (m : NodeState) → FlooredStands config node m → FlooredViews config m node new tx result)
       → ViewsIn config world before after rm tx result
@@ -165,6 +169,7 @@ module _ (config : Config) (world : FlooredWorld) (sizes : Sizes) (nodes : List 
             (node_at config world.machine (R rm)) node_is;
       }
 
+  -- so is a table
   pub table_said : (result : Result (List Row) Refusal)
       → ((config : Config) (m : NodeState) → FlooredStands config node m → FlooredTables config m node new result)
       → TablesIn config world before after rm result

@@ -440,6 +440,7 @@ module _ (config : Config) (sizes : Sizes) (are : AreSizes config sizes) (facts 
   abbrev heard_by : NodeId → ℕ
   heard_by who = count config who (effect_of config who facts memory (datagram_input bytes)).sends
 
+  -- on a message an acceptor sends at most so many
   pub heard_acceptor : (who : NodeId) (a : ℕ) → who ≡ A a → (n : ℕ) → n ≡ sizes.leaders → heard_by who ≤ n + 1
   heard_acceptor who a is n e =
       let few : heard_by (A a) ≤ config.leaders + 1 =
@@ -450,6 +451,7 @@ module _ (config : Config) (sizes : Sizes) (are : AreSizes config sizes) (facts 
       let same : config.leaders ≡ n = sym (e ∙ are.leaders_are) in
       subst (λ (w : NodeId). heard_by w ≤ n + 1) (sym is) (subst (λ (k : ℕ). heard_by (A a) ≤ k + 1) same few)
 
+  -- a leader
   pub heard_leader : (who : NodeId) (l : ℕ) → who ≡ L l → (n : ℕ) → n ≡ sizes.acceptors → heard_by who ≤ 16 * (n + 1)
   heard_leader who l is n e =
       let few : heard_by (L l) ≤ 16 * (config.acceptors + 1) =
@@ -458,6 +460,7 @@ module _ (config : Config) (sizes : Sizes) (are : AreSizes config sizes) (facts 
       let same : config.acceptors ≡ n = sym (e ∙ are.acceptors_are) in
       subst (λ (w : NodeId). heard_by w ≤ 16 * (n + 1)) (sym is) (subst (λ (k : ℕ). heard_by (L l) ≤ 16 * (k + 1)) same few)
 
+  -- and a resource manager
   pub heard_manager : (who : NodeId) (rm : ℕ) → who ≡ R rm → (n : ℕ) → n ≡ sizes.acceptors → heard_by who ≤ n
   heard_manager who rm is n e =
       let few : heard_by (R rm) ≤ config.acceptors =
@@ -472,6 +475,7 @@ module _ (config : Config) (sizes : Sizes) (are : AreSizes config sizes) (facts 
   abbrev asked_by : NodeId → Request → ℕ
   asked_by who request = count config who (on_request config who facts memory request).sends
 
+  -- on a timeout a leader sends at most so many
   pub asked_leader : (who : NodeId) (l : ℕ) → who ≡ L l → (request : Request) → request ≡ Timeout tx → IsTx tx
       → (branches n : ℕ) → branches ≡ length tx.branches → n ≡ sizes.acceptors → asked_by who request ≤ branches * (n + 1)
   asked_leader who l is request what valid branches n b e =
@@ -483,6 +487,7 @@ module _ (config : Config) (sizes : Sizes) (are : AreSizes config sizes) (facts 
       (subst (λ (k : ℕ). asked_by (L l) (Timeout tx) ≤ k * (n + 1)) (sym b)
       (subst (λ (k : ℕ). asked_by (L l) (Timeout tx) ≤ length tx.branches * (k + 1)) same few)))
 
+  -- and a resource manager
   pub asked_manager : (who : NodeId) (rm : ℕ) → who ≡ R rm → (request : Request) → request ≡ Timeout tx
       → (m n : ℕ) → m ≡ sizes.acceptors → n ≡ sizes.leaders → asked_by who request ≤ m + n
   asked_manager who rm is request what m n a l =

@@ -29,6 +29,7 @@ use Rattle.cluster.proofs.Opened.{may_not}
 
 -- ---- one event after another
 
+-- what steps make of a cluster, the machine's events make of its world
 pub follow : (config : Config) (world : FlooredWorld) (first last : ClusterParts) (steps : List Step) → HaveOccurred first steps last
     → ClusterStands config first world → FollowMachine config world steps last
 follow config world first last [] same stands = record {
@@ -58,10 +59,12 @@ over_firm (held ∷ records) (floored ∷ nodes) over none =
     (over.0 ∙ All-head (λ (h : Held). h.nature.may_fail ≡ false) held records none)
     (over_firm records nodes over.1 (All-tail (λ (h : Held). h.nature.may_fail ≡ false) held records none))
 
+-- a cluster over records that don't fail is firm
 pub made_firm : (config : Config) (records : List Held) (cluster : ClusterParts) → IsMade config records cluster → NoneFails records
     → IsFirm cluster
 made_firm config records cluster made none = over_firm records cluster.nodes made.over none
 
+-- and stays so
 pub still_firm : (old new : ClusterParts) → IsSameCluster old new → IsFirm old → IsFirm new
 still_firm old new same firm = λ k d lt.
     let here : k < length old.nodes = omega (arith, lt, length_all_zip IsSameFloored old.nodes new.nodes same.nodes_are) in

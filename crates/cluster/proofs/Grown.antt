@@ -55,6 +55,7 @@ abbrev pub Grows : Config → (world next : World) → Type 0
 Grows config world next = (who : NodeId) → HaveGrown (facts_at config world who) (facts_at config next who)
 
 module _ (config : Config) (world : World) where
+  -- nothing changed
   pub still : Grows config world world
   still who = stayed (facts_at config world who) (facts_at config world who) refl
 
@@ -140,6 +141,7 @@ dispatch_grows config world (Restart who) fault = restart_grows config world who
 dispatch_grows config world (Compact who) fault = compact_grows config world who fault
 dispatch_grows config world event fault = still config world
 
+-- an event
 pub step_grows : (config : Config) (world : World) (event : Event) (fault : Fault)
     → Grows config world (world_step config world event fault).world
 step_grows config world event NoMemoryBefore = still config world

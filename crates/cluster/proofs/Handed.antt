@@ -83,15 +83,19 @@ module _ (config : Config) (world : FlooredWorld) (sizes : Sizes) (nodes : List 
   absent : node_at config world.machine who ≡ None
   absent = none_there config world sizes nodes network notices s who (sym none)
 
+  -- a node that isn't there is handed nothing
   pub nowhere : (input : Input) → ReachesAs config world world.machine who input cluster cluster answered
   nowhere input = reaches_none config world cluster cluster answered refl refl who input absent answer_is now_is s
 
+  -- a request to one
   pub asked_nowhere : (request : Request) → HappensAs config world (Ask who request) cluster cluster answered
   asked_nowhere request = occurs_asked config world cluster cluster answered s who request (nowhere (Asked request))
 
+  -- a tear of one
   pub torn_nowhere : (n : ℕ) → HappensAs config world (Tear who n) cluster cluster answered
   torn_nowhere n = not_torn config world cluster cluster answered s refl refl who absent n answer_is now_is s
 
+  -- a restart of one
   pub restarted_nowhere : HappensAs config world (Restart who) cluster cluster answered
   restarted_nowhere = not_restarted config world cluster cluster answered s refl refl who absent answer_is now_is
       (record {
@@ -102,9 +106,11 @@ module _ (config : Config) (world : FlooredWorld) (sizes : Sizes) (nodes : List 
         notices_are = s.notices_are;
       })
 
+  -- a compaction of one
   pub compacted_nowhere : HappensAs config world (Compact who) cluster cluster answered
   compacted_nowhere = not_compacted config world cluster cluster answered s refl refl who absent answer_is now_is s
 
+  -- bytes for one that spell a message
   pub forged_nowhere : (bytes : List ℕ) (k : Kind) → Spells k bytes
       → HappensAs config world (Noise who bytes) cluster cluster answered
   forged_nowhere bytes k spells =
@@ -151,9 +157,11 @@ noise_handed config world sizes nodes network notices s who at is bytes none nod
 -- a cut
 module _ (network : NetworkParts) (n k : ℕ) (kept : DatagramParts)
     (finds : (net : List Datagram) → StandsFor network net → Finds net n (Some kept)) (lt : k < length kept.bytes) where
+  -- the front of a datagram is no message
   pub cut_none : (net : List Datagram) → StandsFor network net → message_at (take k kept.bytes) ≡ None
   cut_none net s = let f = finds net s in cut_is_noise kept.bytes f.0.message k f.2.spells lt
 
+  -- a datagram of which the front arrives
   pub cut_made : (sizes : Sizes) (nodes new : List FlooredParts) (answered : Answered)
       → ((other : NetworkParts) (notices : NoticesParts) → Reaches kept.receiver ReceivedNoise (cluster_of sizes nodes other notices)
       (cluster_of sizes new other notices) answered)
@@ -191,10 +199,12 @@ module _ (sizes : Sizes) (nodes : List FlooredParts) (network : NetworkParts) (n
   abbrev unmoved : ClusterParts
   unmoved = cluster_of sizes nodes network notices
 
+  -- a delivery of a datagram that isn't there
   pub delivered_none : HappensAs config world (Deliver n) unmoved unmoved answered
   delivered_none =
       undelivered config world unmoved unmoved answered s refl refl n (absent world.machine.net s.net_is) answer_is now_is s
 
+  -- and of the front of one
   pub cut_absent : (k : ℕ) → HappensAs config world (Cut n k) unmoved unmoved answered
   cut_absent k = uncut config world unmoved unmoved answered s refl refl n k (absent world.machine.net s.net_is) answer_is now_is s
 
@@ -274,6 +284,7 @@ module _ (sizes : Sizes) (nodes : List FlooredParts) (network after : NetworkPar
     (same : (net : List Datagram) → StandsFor network net → StandsFor after net)
     (who : NodeId) (at : ℕ) (is : Some at ≡ place (config_by sizes []) who) (request : Request)
     (node new : FlooredParts) (out : Output) (read : node ≡ get_or nodes at node) (steps : Stepped (Asked request) node new out) where
+  -- there is room for what a request sends
   pub ask_room : (notices : NoticesParts) → IsSound (cluster_of sizes nodes network notices) → (n : ℕ)
       → ((config : Config) → AreSizes config sizes → (facts : List Fact) (memory : Memory)
       → count config who (on_request config who facts memory request).sends ≤ n)
@@ -282,6 +293,7 @@ module _ (sizes : Sizes) (nodes : List FlooredParts) (network after : NetworkPar
       room_less after (length (flat_map (datagrams_of (config_by sizes []) who) out.sends)) n
       (fits sound.config sound.world sizes nodes network notices sound.is who at is (Asked request) node new out read steps n bound) room
 
+  -- a request
   pub ask_made : (final : NetworkParts) (answered : Answered)
       → HaveSent after final (flat_map (datagrams_of (config_by sizes []) who) out.sends)
       → answered.answer ≡ out.reply → answered.now ≡ out.now
@@ -353,6 +365,7 @@ module _ (sizes : Sizes) (nodes : List FlooredParts) (network after marked : Net
       (at : ℕ) (is : Some at ≡ place (config_by sizes []) first.receiver) (node new : FlooredParts) (out : Output)
       (read : node ≡ get_or nodes at node)
       (steps : Stepped (datagram_input again.bytes) node new out) where
+    -- there is room for what a delivery sends
     pub deliver_room : (notices : NoticesParts) → IsSound (cluster_of sizes nodes network notices) → (most : ℕ)
         → ((config : Config) → AreSizes config sizes → (facts : List Fact) (memory : Memory) (bytes : List ℕ)
         → count config first.receiver (effect_of config first.receiver facts memory (datagram_input bytes)).sends ≤ most)
@@ -366,6 +379,7 @@ module _ (sizes : Sizes) (nodes : List FlooredParts) (network after marked : Net
         (λ config are facts memory. bound config are facts memory again.bytes))
         (room_marked after marked most spare bytes room)
 
+    -- a delivery
     pub deliver_made : (final : NetworkParts) (answered : Answered)
         → HaveSent marked final (flat_map (datagrams_of (config_by sizes []) first.receiver) out.sends)
         → answered.answer ≡ out.reply → answered.now ≡ out.now

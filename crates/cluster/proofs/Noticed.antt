@@ -150,6 +150,7 @@ module _ (config : Config) (world : FlooredWorld) where
           cond_both (may_replace (world.floor who) node place) _ _ (IsAppended world) (λ may. adds_none world _ refl refl refl refl)
           (λ used. lost_adds (is_unread node fault) who _)
 
+  -- an event adds datagrams and notices at the end
   pub event_adds : (event : Event) (fault : Fault) → IsAppended world (step_with_floors config world event fault)
   event_adds (Ask who request) fault = asked_adds who request fault (passes_over config world who (Asked request)) refl
   event_adds (Deliver n) fault = delivered_adds n fault (is_lost config world (datagram_at world.machine.net n)) refl
@@ -174,6 +175,7 @@ module _ (config : Config) (world : FlooredWorld) (event : Event) (fault : Fault
   sent_with_floors old new stood stands =
       sent_is world.machine.net result.world.machine.net result.sent (event_adds config world event fault).sent old new stood stands
 
+  -- the datagrams of a cluster are as many more as the event sent
   pub sent_count : (old new : NetworkParts) → StandsFor old world.machine.net → StandsFor new result.world.machine.net
       → length new.datagrams ≡ length old.datagrams + length result.sent
   sent_count old new stood stands =

@@ -61,6 +61,7 @@ cut_is_noise bytes d k spells lt =
 
 -- ---- marks
 
+-- to mark a datagram that isn't there changes nothing
 pub mark_absent : (net : List Datagram) (n : ℕ) → datagram_at net n ≡ None → mark_at net n ≡ net
 mark_absent [] n e = refl
 mark_absent (d ∷ net) zero e = refl
@@ -69,6 +70,7 @@ mark_absent (d ∷ net) (suc (suc n)) e = ap (λ (ds : List Datagram). d ∷ ds)
 
 -- ---- any event
 
+-- the step that was made of an event
 abbrev pub step_made : Event → Answer → Option Change → List Sent → List Told → Step
 step_made event answer now sent told = record { event = event; answer = answer; now = now; sent = sent; told = told }
 
@@ -114,6 +116,7 @@ module _ (config : Config) (world : FlooredWorld) (event : Event) (old new : Clu
       ∙ ap (λ (t : List Told). step_made event result.answer result.now sent_now t)
       (told_with_floors config world event fault old.notices new.notices stood.notices_are comes.stands.notices_are)
 
+  -- what changed as the event says is what occurs
   pub occurs : IsSameCluster old new → StayBut (place_reached config world event) old.nodes new.nodes → (fault : Fault)
       → (fault ≡ NoMemoryBefore → ⊥)
       → BefallsEvent config world event old.nodes new.nodes fault → (result : FlooredResult)
@@ -162,6 +165,7 @@ pub comes_quiet : (config : Config) (after : FlooredWorld) (new : ClusterParts) 
 comes_quiet config after new answered answer answer_is now_is stands =
     record { answer_is = answer_is; now_is = now_is; stands = stands }
 
+-- no fault doesn't come before a node is reached
 pub no_fault : NoFault ≡ NoMemoryBefore → ⊥
 no_fault e = absurd (cc (e))
 
@@ -204,6 +208,7 @@ module _ (config : Config) (world : FlooredWorld) (old new : ClusterParts) (answ
   abbrev machine : World
   machine = world.machine
 
+  -- a request
   pub occurs_asked : (who : NodeId) (request : Request) → ReachesAs config world machine who (Asked request) old new answered
       → HappensAs config world (Ask who request) old new answered
   occurs_asked who request r =
@@ -224,6 +229,7 @@ module _ (config : Config) (world : FlooredWorld) (old new : ClusterParts) (answ
       (record { answer_is = answer_is; now_is = now_is; stands = stands })
 
   module _ (sizes_are : new.sizes ≡ old.sizes) (nodes_are : new.nodes ≡ old.nodes) (n : ℕ) where
+    -- a delivery of a datagram that isn't there
     pub undelivered : datagram_at machine.net n ≡ None → answered.answer ≡ Refused refusals.NoSuch → answered.now ≡ None
         → ClusterStands config new world → HappensAs config world (Deliver n) old new answered
     undelivered none =
@@ -232,10 +238,12 @@ module _ (config : Config) (world : FlooredWorld) (old new : ClusterParts) (answ
         (ap (option_map (λ (d : Datagram). (d.receiver, Received d.message))) none))
         (ap (if_found machine _) none)
 
+    -- a loss of one
     pub unlost : datagram_at machine.net n ≡ None → answered.answer ≡ Refused refusals.NoSuch → answered.now ≡ None
         → ClusterStands config new world → HappensAs config world (Lose n) old new answered
     unlost none = not_there sizes_are nodes_are (Lose n) refl refl (ap (if_found machine _) none)
 
+    -- the front of one
     pub uncut : (k : ℕ) → datagram_at machine.net n ≡ None → answered.answer ≡ Refused refusals.NoSuch → answered.now ≡ None
         → ClusterStands config new world → HappensAs config world (Cut n k) old new answered
     uncut k none =
@@ -245,6 +253,7 @@ module _ (config : Config) (world : FlooredWorld) (old new : ClusterParts) (answ
 
   module _ (sizes_are : new.sizes ≡ old.sizes) (nodes_are : new.nodes ≡ old.nodes) (who : NodeId)
       (none : node_at config machine who ≡ None) where
+    -- a tear of a node that isn't there
     pub not_torn : (n : ℕ) → answered.answer ≡ Refused refusals.NoSuch → answered.now ≡ None
         → ClusterStands config new world → HappensAs config world (Tear who n) old new answered
     not_torn n =
@@ -261,6 +270,7 @@ module _ (config : Config) (world : FlooredWorld) (old new : ClusterParts) (answ
         (subst (λ (o : Option NodeState). BefallsRestarted config old.nodes new.nodes who o NoFault) (sym none) refl)
         (ap (if_found machine _) none)
 
+    -- a compaction of one
     pub not_compacted : answered.answer ≡ Refused refusals.NoSuch → answered.now ≡ None
         → ClusterStands config new world → HappensAs config world (Compact who) old new answered
     not_compacted =
@@ -269,6 +279,7 @@ module _ (config : Config) (world : FlooredWorld) (old new : ClusterParts) (answ
         (ap (if_found machine _) none)
 
   module _ (n : ℕ) (d : Datagram) (is : datagram_at machine.net n ≡ Some d) where
+    -- a delivery
     pub occurs_delivered : ReachesAs config world (with_mark machine n) d.receiver (Received d.message) old new answered
         → HappensAs config world (Deliver n) old new answered
     occurs_delivered r =
@@ -280,6 +291,7 @@ module _ (config : Config) (world : FlooredWorld) (old new : ClusterParts) (answ
         (at_floored_node config (with_mark machine n) (world.floor d.receiver) d.receiver (Received d.message) r.fault)
         (ap (if_found machine _) is) r.comes
 
+    -- a loss
     pub occurs_lost : new.sizes ≡ old.sizes → new.nodes ≡ old.nodes → answered.answer ≡ Done → answered.now ≡ None
         → ClusterStands config new (record world { machine = with_mark machine n })
         → HappensAs config world (Lose n) old new answered
@@ -289,6 +301,7 @@ module _ (config : Config) (world : FlooredWorld) (old new : ClusterParts) (answ
         (answer_result (with_mark machine n) Done) (ap (if_found machine _) is)
         (record { answer_is = answer_is; now_is = now_is; stands = stands })
 
+    -- the front of a datagram
     pub occurs_cut : (k : ℕ) → k < length (spelling d.message) → ReachesAs config world machine d.receiver ReceivedNoise old new answered
         → HappensAs config world (Cut n k) old new answered
     occurs_cut k lt r =
@@ -305,6 +318,7 @@ module _ (config : Config) (world : FlooredWorld) (old new : ClusterParts) (answ
         (Refused refusals.NoSuch)) fewer)
         r.comes
 
+    -- a front that would be the whole
     pub not_cut : new.sizes ≡ old.sizes → new.nodes ≡ old.nodes → (k : ℕ) → length (spelling d.message) ≤ k
         → answered.answer ≡ Refused refusals.NoSuch → answered.now ≡ None → ClusterStands config new world
         → HappensAs config world (Cut n k) old new answered
@@ -318,6 +332,7 @@ module _ (config : Config) (world : FlooredWorld) (old new : ClusterParts) (answ
         (Refused refusals.NoSuch)) all)
 
   module _ (who : NodeId) (bytes : List ℕ) where
+    -- bytes that spell no message
     pub occurs_noise : message_at bytes ≡ None → ReachesAs config world machine who ReceivedNoise old new answered
         → HappensAs config world (Noise who bytes) old new answered
     occurs_noise none r =
@@ -334,6 +349,7 @@ module _ (config : Config) (world : FlooredWorld) (old new : ClusterParts) (answ
         else at_node config machine who ReceivedNoise r.fault) no)
         r.comes
 
+    -- bytes that spell one
     pub occurs_forged : new.sizes ≡ old.sizes → new.nodes ≡ old.nodes → (k : Kind) → Spells k bytes → (answer : Answer)
         → if_found machine (λ (node : NodeState). answer_result machine (Refused refusals.Forged))
         (node_at config machine who) ≡ answer_result machine answer

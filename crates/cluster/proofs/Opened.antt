@@ -46,6 +46,7 @@ use Rattle.cluster.specs.Clusters.{NoticesParts, cluster_of, AreTold, ClusterSta
 use Rattle.cluster.specs.Opening.{torn_node, opening_with, tears_of, NoneArmed, IsOver, IsMade, IsUnmade}
 use Rattle.cluster.specs.Opening.{IsBegun, IsUnbegun, AreBegun}
 
+-- what may be isn't what may not
 pub may_not : (may : Bool) → IsTrue may → may ≡ false → ⊥
 may_not may allowed e = let both : true ≡ false = sym allowed ∙ e in absurd (cc (both))
 
@@ -74,6 +75,7 @@ pub no_bytes : (bytes : List ℕ) (n : ℕ) → n ≡ length bytes → (n == 0) 
 no_bytes [] n e t = refl
 no_bytes (x ∷ xs) n e t = absurd (none_equal n (length xs) e t)
 
+-- a node that was opened over an empty record has begun
 pub begun : (config : Config) (who : NodeId) (held now : Held) (floored : FlooredParts) → now ≡ held → held.bytes ≡ []
     → IsFlooredOpened config who now floored → IsBegun config who held floored
 begun config who held now floored same empty opened =
@@ -200,11 +202,13 @@ unmade_at config records k held other lt read un = absurd un
 -- over the first of some records
 module _ {X : Type 0} (held : X → Held) (config : Config) (sizes : Sizes) (are : AreSizes config sizes) (all done : List X)
     (nodes : List FlooredParts) (so : AreBegun config (map held done) nodes) where
+  -- there are as many nodes as records that were opened
   pub count_here : length nodes ≡ length done
   count_here = zip_length IsOver (map held done) nodes so.over ∙ length-map done held
 
   -- and one more
   module _ (x : X) (lt : length done < length all) (read : x ≡ get_or all (length done) x) where
+    -- one node more has begun
     pub begun_next : (who : NodeId) → who ≡ node_in (config_by sizes []) (length nodes) → (node : FlooredParts)
         → IsBegun config who (held x) node → (new : List FlooredParts) → new ≡ nodes ++ node ∷ []
         → AreBegun config (map held (done ++ x ∷ [])) new
@@ -213,6 +217,7 @@ module _ {X : Type 0} (held : X → Held) (config : Config) (sizes : Sizes) (are
         (subst (λ (records : List Held). AreBegun config records (nodes ++ node ∷ [])) (sym (map_push held done x))
         (begun_more config sizes are (map held done) nodes (held x) node so who named begun))
 
+    -- where one doesn't, the cluster isn't made
     pub unmade_next : (refusal : Refusal) → IsUnbegun (held x) refusal → IsUnmade config (map held all) refusal
     unmade_next refusal un =
         let within : length done < length (map held all) = omega (arith, lt, length-map all held) in
@@ -401,6 +406,7 @@ module _ (config : Config) (sizes : Sizes) (are : AreSizes config sizes) (record
     notices_are = none;
   }
 
+  -- a cluster that was made is sound
   pub made_sound : IsSound (cluster_of sizes nodes network notices)
   made_sound = record {
     config = config;
@@ -409,6 +415,7 @@ module _ (config : Config) (sizes : Sizes) (are : AreSizes config sizes) (record
     is = stands;
   }
 
+  -- it is made of its records
   pub made : IsMade config records (cluster_of sizes nodes network notices)
   made = record {
     new = record { count = all; empty = begun.empty };

@@ -289,6 +289,7 @@ module _ (config : Config) (world : FlooredWorld) (sizes : Sizes) (nodes : List 
         ∙ ap (floored_if_found world (hear_result config world notice fault)) node_is
         ∙ ap (λ (b : Bool). if b then heard_by fault else floored_answer world (Refused refusals.Down)) m_up
 
+    -- a notice
     pub heard_made : (result : Result (Unit {0}) Refusal) → RaisesToLeast least node new result → (answered : Answered)
         → answered.answer ≡ restart_answer result → answered.now ≡ None
         → HappensAs config world (Hear n) before_it (cluster_of sizes (set nodes at new) network after) answered
@@ -365,6 +366,7 @@ module _ (config : Config) (world : FlooredWorld) (sizes : Sizes) (nodes : List 
     abbrev after_it : ClusterParts
     after_it = cluster_of sizes (set nodes at new) network after
 
+    -- a floor that was to rise
     pub raised_made : (answered : Answered) → answered.answer ≡ restart_answer result → answered.now ≡ None
         → HappensAs config world (Raise rm floor) (cluster_of sizes nodes network notices) after_it answered
     raised_made answered answer_is now_is =
@@ -428,6 +430,7 @@ module _ (config : Config) (world : FlooredWorld) (sizes : Sizes) (nodes : List 
         unheard config world kept kept answered s refl refl n answer (heard_event config world n notice there_is NoFault ∙ is)
         (rests_heard (notice_at world.notices n)) answer_is now_is s
 
+    -- a notice to a resource manager
     pub heard_manager : is_manager notice.receiver ≡ true → answered.answer ≡ Done → HappensAs config world (Hear n) kept kept answered
     heard_manager manager =
         heard_as Done (ap (λ (b : Bool). if b then floored_answer world Done
@@ -439,6 +442,7 @@ module _ (config : Config) (world : FlooredWorld) (sizes : Sizes) (nodes : List 
       by_node = ap (λ (b : Bool). if b then floored_answer world Done
           else floored_if_found world (hear_result config world notice NoFault) (node_at config world.machine notice.receiver)) other
 
+      -- to a node that isn't there
       pub heard_nowhere : None ≡ place_of (config_by sizes []) notice.receiver → answered.answer ≡ Refused refusals.NoSuch
           → HappensAs config world (Hear n) kept kept answered
       heard_nowhere none =
@@ -446,6 +450,7 @@ module _ (config : Config) (world : FlooredWorld) (sizes : Sizes) (nodes : List 
           (by_node ∙ ap (floored_if_found world (hear_result config world notice NoFault))
           (none_there config world sizes nodes network notices s notice.receiver (sym none)))
 
+      -- and to one that is down
       pub heard_down : (at : ℕ) → Some at ≡ place_of (config_by sizes []) notice.receiver → (node : FlooredParts)
           → node ≡ get_or nodes at node → is_none node.node.role ≡ true → answered.answer ≡ Refused refusals.Down
           → HappensAs config world (Hear n) kept kept answered

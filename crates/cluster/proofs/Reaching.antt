@@ -234,6 +234,7 @@ module _ (config : Config) (world : FlooredWorld) (sizes : Sizes) (nodes : List 
       (λ (before after : FlooredParts). Befalls (floored_fact config who floor m input) before.node.held after.node.held does.fault) d new
       (subst (λ (a : NodeState). Befalls (floored_fact config who floor a input) old.node.held new.node.held does.fault) m_is befalls)
 
+  -- what comes of an input at a node of a cluster
   pub reached : (after : NetworkParts) (answered : Answered)
       → HaveSent network after (flat_map (datagrams_of (config_by sizes []) who) out.sends)
       → answered.answer ≡ out.reply → answered.now ≡ out.now

@@ -108,6 +108,7 @@ module _ (config : Config) (world : FlooredWorld) (sizes : Sizes) (nodes : List 
   told_count : length (told_in notices at) ≡ config.managers
   told_count = s.told_are.each_count at [] (told_within config world sizes nodes network notices s who at (sym is))
 
+  -- nothing is told of a node any more
   pub none_told : AreTold config forgotten.told (with_entry world.told who nothing_told)
   none_told =
       told_put config world sizes nodes network notices s who at (sym is) (replicate (length (told_in notices at)) None) nothing_told
@@ -133,6 +134,7 @@ module _ (config : Config) (world : FlooredWorld) (sizes : Sizes) (nodes : List 
     armed (Some x) =
         in_place (λ (before after : FlooredParts). after.node ≡ record before.node { held = armed_with (Some n) before.node.held }) holds
 
+    -- a tear
     pub torn_made : (answered : Answered) → answered.answer ≡ Done → answered.now ≡ None
         → HappensAs config world (Tear who n) before_it after_it answered
     torn_made answered answer_is now_is =
@@ -199,6 +201,7 @@ module _ (config : Config) (world : FlooredWorld) (sizes : Sizes) (nodes : List 
         (λ e. subst (λ (f : Fault). BefallsRestart node.node.held new.node.held f) e restarted.befalls)
         (befallen (node_at config machine who) node_is) refl made (ap (if_found machine _) node_is) comes
 
+    -- a restart
     pub restarted_made : (left : NoticesParts) → left ≡ forgotten → (answered : Answered) → answered.answer ≡ restart_answer result
         → answered.now ≡ None
         → HappensAs config world (Restart who) before_it (cluster_of sizes (set nodes at new) network left) answered
@@ -294,6 +297,7 @@ module _ (config : Config) (world : FlooredWorld) (sizes : Sizes) (nodes : List 
             → BefallsShorter config who m (get_or nodes p d) (get_or (set nodes at new) p d) up.fault) up.fault) (sym up.up)
             (in_place (λ (before after : FlooredParts). BefallsShorter config who m before after up.fault) befallen))
 
+    -- a compaction
     pub compacted_made : (answered : Answered) → answered.answer ≡ restart_answer result → answered.now ≡ None
         → HappensAs config world (Compact who) before_it after_it answered
     compacted_made answered answer_is now_is = elim (compacted.comes) [

@@ -237,6 +237,7 @@ module _ (config : Config) (world : FlooredWorld) (sizes : Sizes) (nodes : List 
           stands = unput_stands kept (is_unread m fault) (used_by kept (is_unread m fault) refl);
         })
 
+    -- a replacement
     pub replaced_made : HappensAs config world (Replace who floor) before_it (after_it left) answered
     replaced_made = replaced_by (may_replace (world.floor who) m floor) refl
 

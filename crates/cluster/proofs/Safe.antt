@@ -205,6 +205,7 @@ module _ (event : Event) (old new : ClusterParts) (step : Step) (config : Config
       restart_undamaged config next.machine who fault (play config next.machine (are_runs config next after) who)
       (sym (ap (λ (r : StepResult). r.answer) (same_event config next (Restart who) fault refl)) ∙ e)
 
+  -- a step of a cluster is safe
   pub safe_move : IsSafeMove config world step next new
   safe_move = record {
     reached = after;

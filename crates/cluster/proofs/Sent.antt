@@ -25,15 +25,18 @@ use Rattle.cluster.specs.Sending.{HaveSent, HasRoom, KeepsRoom}
 
 -- ---- bytes that spell no message
 
+-- bytes that spell nothing are no message
 pub none_by : (bytes : List ℕ) (read : Option Kind) → message_at bytes ≡ read → ((k : Kind) → Spells k bytes → ⊥) → message_at bytes ≡ None
 none_by bytes None e none = e
 none_by bytes (Some k) e none = absurd (none k (spelled k bytes e))
 
+-- so are those that are no message's spelling
 pub no_message : (bytes : List ℕ) → ((k : Kind) → IsMessage k → bytes ≢ spelling k) → message_at bytes ≡ None
 no_message bytes none = none_by bytes (message_at bytes) refl (λ k s. none k s.message s.spelled)
 
 -- ---- sent
 
+-- nothing was sent
 pub none_sent : (network : NetworkParts) → HaveSent network network []
 none_sent network = λ net s. subst (λ (n : List Datagram). StandsFor network n) (sym (append-nil net)) s
 
@@ -66,6 +69,7 @@ put_again old new sender message receiver again is push net (x ∷ xs) first sta
 
 module _ (start now new : NetworkParts) (sender : NodeId) (message : Kind) (receivers : List NodeId) (i : ℕ) (receiver : NodeId)
     (lt : i < length receivers) (read : receiver ≡ get_or receivers i receiver) where
+  -- a datagram to one receiver more
   pub next_put : ((net : List Datagram) (before : List NodeId) → nat_lt 0 i ≡ nat_lt 0 (length before)
       → StandsFor now (net ++ map (datagram_to sender message) before)
       → StandsFor new (net ++ map (datagram_to sender message) (before ++ receiver ∷ [])))
@@ -105,6 +109,7 @@ room_for_one network (suc more) some room =
 -- so many of them are left to be put, and there is room for them
 module _ (start now : NetworkParts) (count i : ℕ)
     (so : (more : ℕ) → HasRoom (count + more) start → HasRoom (count - i + more) now) where
+  -- there is room for it
   pub room_there : HasRoom count start → i < count → HasRoom 1 now
   room_there room lt =
       let all : count ≡ count + 0 = omega arith in
@@ -130,6 +135,7 @@ pub record AreSent {X : Type 0} (f : X → List Datagram) (xs : List X) (start n
   pub sent : HaveSent start now (flat_map f (take k xs))
   pub room : HasRoom (length (flat_map f (drop k xs))) now
 
+-- what is sent, with one message more
 pub next_sent : {X : Type 0} (f : X → List Datagram) (xs : List X) (start now new : NetworkParts) (k : ℕ) (message : X)
     → k < length xs → message ≡ get_or xs k message → AreSent f xs start now k → HaveSent now new (f message)
     → KeepsRoom (length (f message)) now new → AreSent f xs start new (k + 1)
@@ -218,6 +224,7 @@ listed_push n (first ∷ xs) x =
     (listed_push (suc n) xs x ∙ ap (λ (k : ℕ). listed_from (suc n) xs ++ listed_at k x) e)
     ∙ sym (append_assoc (listed_at n first) (listed_from (suc n) xs) (listed_at (n + suc (length xs)) x))
 
+-- what stands behind the first ones, at its place
 pub get_dropped : {X : Type 0} (k : ℕ) (xs : List X) (i : ℕ) (d : X) → get_or (drop k xs) i d ≡ get_or xs (k + i) d
 get_dropped zero xs i d = let e : i ≡ 0 + i = omega arith in ap (λ (n : ℕ). get_or xs n d) e
 get_dropped (suc k) [] i d = refl

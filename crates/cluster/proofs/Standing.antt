@@ -79,6 +79,7 @@ pub all_stay : {X : Type 0} (at : Option ℕ) (old new : List X) → new ≡ old
 all_stay None old new same = same
 all_stay {X} (Some at) old new same = λ other d apart. ap (λ (nodes : List X). get_or nodes other d) same
 
+-- a change at one place leaves the others
 pub others_stay : {X : Type 0} (reached : Option ℕ) (at : ℕ) (nodes : List X) (new : X) → reached ≡ Some at
     → StayBut reached nodes (set nodes at new)
 others_stay reached at nodes new is =
@@ -100,6 +101,7 @@ unchanged old new sizes_are nodes_are = record {
 
 -- ---- sizes
 
+-- the sizes of a cluster say where a node stands
 pub place_as : (config : Config) (sizes : Sizes) → AreSizes config sizes → (who : NodeId)
     → place (config_by sizes []) who ≡ place config who
 place_as config sizes are (A a) = ap (λ (n : ℕ). if nat_lt a n then Some a else None) are.acceptors_are
@@ -121,9 +123,11 @@ index_fits sizes nodes who at count is =
 
 -- a floor or what was told, where one node has another entry
 module _ {X : Type 0} (table : NodeId → X) (who : NodeId) (x : X) where
+  -- the entry of a node
   pub entry_here : (n : NodeId) → n ≡ who → with_entry table who x n ≡ x
   entry_here n same = ap (with_entry table who x) same ∙ entry_own table who x
 
+  -- and of another one
   pub entry_apart : (n : NodeId) → (n ≡ who → ⊥) → with_entry table who x n ≡ table n
   entry_apart n apart = entry_by table who x (λ (y : X). y ≡ table n) n (λ same. absurd (apart same)) (λ other. refl)
 
@@ -143,24 +147,31 @@ module _ (config : Config) (world : FlooredWorld) (sizes : Sizes) (nodes : List 
       omega (arith, s.told_are.count, s.sizes_are.acceptors_are, s.sizes_are.leaders_are, s.sizes_are.managers_are)
 
   module _ (who : NodeId) (at : ℕ) (is : place (config_by sizes []) who ≡ Some at) where
+    -- the node stands there
     pub placed : place config who ≡ Some at
     placed = sym (place_as config sizes s.sizes_are who) ∙ is
 
+    -- its place is within the nodes
     pub within : at < length nodes
     within = index_fits sizes nodes who at count_is is
 
+    -- and within what was told
     pub told_within : at < length notices.told
     told_within = index_fits sizes notices.told who at told_count_is is
 
+    -- it stands for a node of the world
     pub there : (d : FlooredParts) → (m : NodeState) × (slice_get states at ≡ Some m) × FlooredStands config (get_or nodes at d) m
     there d = zip_at (FlooredStands config) nodes states at d s.nodes_are.stand within
 
+    -- which is the one that is there
     pub found : (m : NodeState) → slice_get states at ≡ Some m → node_at config world.machine who ≡ Some m
     found m e = ap (λ (o : Option ℕ). option_and_then (λ (p : ℕ). slice_get states p) o) placed ∙ e
 
+    -- it has its name
     pub named : (d : FlooredParts) → (get_or nodes at d).node.who ≡ who
     named d = s.nodes_are.named who at d placed
 
+    -- and its floor
     pub floor_there : (d : FlooredParts) → (get_or nodes at d).floor ≡ world.floor who
     floor_there d = s.nodes_are.floors_are who at d placed
 

@@ -180,6 +180,7 @@ module _ (place : Place) where
         ∙ any_passing is_kept_tx tx (ap not above) old.courses.begun
         ∙ stands.ballots.begun_are tx (subst (λ (n : ℕ). 0 < n) (last_ballot_kept (Some place) tx above facts) some)
 
+    -- what is left of a leader stands for what is kept
     pub leader_left : left.number ≡ old.number → left.acceptors ≡ old.acceptors → left.leaders ≡ old.leaders
         → left.managers ≡ old.managers → left.bundled ≡ old.bundled
         → StandsFor config number left (kept_facts (Some place) facts) kept

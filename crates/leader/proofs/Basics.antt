@@ -8,12 +8,15 @@ use Rattle.xid.proofs.Deciding.{tx_decides}
 
 -- ---- names and numbers
 
+-- transactions that pass the test are the same
 pub same_tx : (a b : TxParts) → tx_eq a b ≡ true → a ≡ b
 same_tx a b h = (tx_decides a b).0 h
 
+-- a transaction passes the test with itself
 pub tx_self : (a : TxParts) → tx_eq a a ≡ true
 tx_self a = (tx_decides a a).1 refl
 
+-- so does a number
 pub nat_self : (a : ℕ) → (a == a) ≡ true
 nat_self a = eq-eqb a a refl
 
@@ -22,6 +25,7 @@ pub is_false : (t : Bool) → (t ≡ true → ⊥) → t ≡ false
 is_false true h = absurd (h refl)
 is_false false h = refl
 
+-- the test of numbers reads both ways
 pub nat_turned : (a b : ℕ) → (a == b) ≡ (b == a)
 nat_turned a b = elim (cases_Bool (a == b)) [
   | inl h ↦ h ∙ sym (eq-eqb b a (sym (eqb-true a b h)))
@@ -30,12 +34,14 @@ nat_turned a b = elim (cases_Bool (a == b)) [
 
 -- ---- and
 
+-- what ends in false is false
 pub and_false_3 : (x y z : Bool) → (x && y && (z && false)) ≡ false
 and_false_3 true true true = refl
 and_false_3 true true false = refl
 and_false_3 true false z = refl
 and_false_3 false y z = refl
 
+-- so it is with one test more
 pub and_false_4 : (x y z w : Bool) → (x && y && z && (w && false)) ≡ false
 and_false_4 true true true true = refl
 and_false_4 true true true false = refl
@@ -55,6 +61,7 @@ any_of_kept p f (x ∷ xs) dropped =
       | false ↦ λ e. any_of_kept p f xs dropped ∙ ap (λ t. t || list_any f xs) (sym (dropped x e))
     ] refl
 
+-- what is made of what is kept, where nothing is made of the rest
 pub mapped_of_kept : {X Y : Type 0} (p : X → Bool) (f : X → Option Y) (xs : List X) → ((x : X) → p x ≡ false → f x ≡ None)
     → filter_map f (filter p xs) ≡ filter_map f xs
 mapped_of_kept p f [] dropped = refl
@@ -73,6 +80,7 @@ none_of_kept p f (x ∷ xs) kept =
       | false ↦ λ e. none_of_kept p f xs kept
     ] refl
 
+-- what is kept makes nothing, where nothing is made of it
 pub nothing_of_kept : {X Y : Type 0} (p : X → Bool) (f : X → Option Y) (xs : List X) → ((x : X) → p x ≡ true → f x ≡ None)
     → filter_map f (filter p xs) ≡ []
 nothing_of_kept p f [] kept = refl

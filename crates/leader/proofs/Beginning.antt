@@ -46,6 +46,7 @@ met_before n stored tx memory c met stands = record {
   told_are = stands.told_are;
 }
 
+-- a course that stands for a memory does so once its transaction was met
 pub meet_step : (n : ℕ) (stored : StoredBallots) (tx : TxParts) (memory : LeaderMemory) (c : CourseParts)
     → CourseStands n stored memory tx c
     → CourseStands n stored (with_met tx memory) tx (after_meeting c)
@@ -121,6 +122,7 @@ begin_row n tx b memory row stands = record {
   aborted_is = stands.aborted_is ∙ sym (decided_begun n tx memory row.instance Vote.Aborted);
 }
 
+-- and once a ballot of it was begun
 pub begin_step : (n : ℕ) (stored : StoredBallots) (tx : TxParts) (b : ℕ) (memory : LeaderMemory) (c : CourseParts)
     → CourseStands n stored memory tx c → CourseStands n stored (with_begun tx b memory) tx (after_beginning b c)
 begin_step n stored tx b memory c stands = record {

@@ -12,6 +12,7 @@ use Rattle.wire.specs.Messages.{IsMessage}
 pub some_reports : (tx : TxParts) (b a : ℕ) (reports : List InstanceReport) → IsMessage (B1b tx b a reports) → 0 < length reports
 some_reports tx b a reports is = omega (arith, is.0.some, length-map reports (λ item. item.instance))
 
+-- a bundle of phase 2b has an item
 pub some_accepts : (tx : TxParts) (a : ℕ) (accepts : List InstanceAccept) → IsMessage (B2b tx a accepts) → 0 < length accepts
 some_accepts tx a accepts is = omega (arith, is.0.some, length-map accepts (λ item. item.instance))
 

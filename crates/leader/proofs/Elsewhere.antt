@@ -40,11 +40,13 @@ pub record SameOn (tx : TxParts) (old new : LeaderMemory) : Type 0 where
   pub at : (i : ℕ) → SameAt tx i old new
   pub met_is : list_any (tx_eq tx) new.met ≡ list_any (tx_eq tx) old.met
 
+-- whether an instance is decided is told by what was heard of it
 pub same_decided : (n : ℕ) (tx : TxParts) (i : ℕ) (v : Vote) (old new : List Kind)
     → ((b a : ℕ) → list_any (is_accept_of tx i b v a) new ≡ list_any (is_accept_of tx i b v a) old)
     → filter_map (ballot_told tx i v) new ≡ filter_map (ballot_told tx i v) old → is_decided n new tx i v ≡ is_decided n old tx i v
 same_decided n tx i v old new told ballots = λ k. list_any (λ b. is_majority n (λ a. told b a k)) (ballots k)
 
+-- an instance stands for each memory that is the same there
 pub instance_same : (n : ℕ) (tx : TxParts) (row : InstanceCourse) (old new : LeaderMemory) → SameAt tx row.instance old new
     → InstanceStands n old tx row → InstanceStands n new tx row
 instance_same n tx row old new same stands = record {
@@ -59,6 +61,7 @@ instance_same n tx row old new same stands = record {
       (same.ballots Vote.Aborted));
 }
 
+-- so do all instances
 pub instances_same : (n : ℕ) (tx : TxParts) (rows : List InstanceCourse) (old new : LeaderMemory) → ((i : ℕ) → SameAt tx i old new)
     → AllByRecursion (InstanceStands n old tx) rows → AllByRecursion (InstanceStands n new tx) rows
 instances_same n tx [] old new same stand = tt
@@ -78,6 +81,7 @@ course_same n stored tx c old new same stands = record {
   told_are = λ i b v a. stands.told_are i b v a ∙ sym ((same.at i).told b v a);
 }
 
+-- a memory is the same as itself
 pub same_refl : (tx : TxParts) (memory : LeaderMemory) → SameOn tx memory memory
 same_refl tx memory = record {
   at = λ i. record {
@@ -91,6 +95,7 @@ same_refl tx memory = record {
   met_is = refl;
 }
 
+-- and as what is the same as one that is
 pub same_then : (tx : TxParts) (one two three : LeaderMemory) → SameOn tx one two → SameOn tx two three → SameOn tx one three
 same_then tx one two three h k = record {
   at = λ i. record {
@@ -106,22 +111,26 @@ same_then tx one two three h k = record {
 
 -- ---- a message of another transaction
 
+-- a message of another transaction is no report of this one
 pub no_reporter : (tx : TxParts) (i b a : ℕ) (m : Kind) → tx_eq tx (message_tx m) ≡ false → is_report_of tx i b a m ≡ false
 no_reporter tx i b a (P1b other j c report from) h =
     ap (λ t. (a == from) && (b == c) && ((i == j) && t)) h ∙ and_false_3 (a == from) (b == c) (i == j)
 no_reporter tx i b a m h = refl
 
+-- nor has it one
 pub no_report : (tx : TxParts) (i b : ℕ) (m : Kind) → tx_eq tx (message_tx m) ≡ false → message_report tx i b m ≡ None
 no_report tx i b (P1b other j c report from) h =
     ap (λ t. if (b == c) && ((i == j) && t) then Some report else None) h
     ∙ ap (λ t. if t then Some report else None) (last_false (b == c) (i == j))
 no_report tx i b m h = refl
 
+-- it is no accept of this one
 pub no_teller : (tx : TxParts) (i b : ℕ) (v : Vote) (a : ℕ) (m : Kind) → tx_eq tx (message_tx m) ≡ false → is_accept_of tx i b v a m ≡ false
 no_teller tx i b v a (P2b other j c w from) h =
     ap (λ t. (a == from) && (b == c) && vote_eq v w && ((i == j) && t)) h ∙ and_false_4 (a == from) (b == c) (vote_eq v w) (i == j)
 no_teller tx i b v a m h = refl
 
+-- nor tells it a ballot
 pub no_ballot : (tx : TxParts) (i : ℕ) (v : Vote) (m : Kind) → tx_eq tx (message_tx m) ≡ false → ballot_told tx i v m ≡ None
 no_ballot tx i v (P2b other j c w from) h =
     ap (λ t. if vote_eq v w && ((i == j) && t) then Some c else None) h
@@ -149,6 +158,7 @@ counted_elsewhere : (tx : TxParts) (m : Kind) (memory : LeaderMemory) (t : Bool)
 counted_elsewhere tx m memory true h = same_refl tx memory
 counted_elsewhere tx m memory false h = heard_elsewhere tx m memory h
 
+-- reports of another transaction leave a memory the same
 pub reports_elsewhere : (tx other : TxParts) (b a : ℕ) (items : List InstanceReport) (memory : LeaderMemory) → tx_eq tx other ≡ false
     → SameOn tx memory (with_all_heard (report_messages other b a items) memory)
 reports_elsewhere tx other b a [] memory h = same_refl tx memory
@@ -158,6 +168,7 @@ reports_elsewhere tx other b a (item ∷ items) memory h =
     same_then tx memory next (with_all_heard (report_messages other b a items) next)
     (counted_elsewhere tx m memory (is_counted memory.heard m) h) (reports_elsewhere tx other b a items next h)
 
+-- so do accepts
 pub accepts_elsewhere : (tx other : TxParts) (a : ℕ) (items : List InstanceAccept) (memory : LeaderMemory) → tx_eq tx other ≡ false
     → SameOn tx memory (with_all_heard (accept_messages_of other a items) memory)
 accepts_elsewhere tx other a [] memory h = same_refl tx memory
@@ -169,6 +180,7 @@ accepts_elsewhere tx other a (item ∷ items) memory h =
 
 -- ---- met, begun and proposed elsewhere
 
+-- transactions that are met change nothing at an instance
 pub alike : (tx : TxParts) (i : ℕ) (old : LeaderMemory) (met : List TxParts) → SameAt tx i old (record old { met = met })
 alike tx i old met = record {
   current_is = refl;
@@ -186,6 +198,7 @@ met_more tx other memory h = record {
   met_is = ap (λ t. t || list_any (tx_eq tx) memory.met) h;
 }
 
+-- to meet another transaction leaves it the same
 pub met_elsewhere : (tx other : TxParts) (memory : LeaderMemory) → tx_eq tx other ≡ false → SameOn tx memory (with_met other memory)
 met_elsewhere tx other memory h =
     elim (list_any (tx_eq other) memory.met) as (λ t. SameOn tx memory (if t then memory else record memory { met = other ∷ memory.met })) [
@@ -212,11 +225,13 @@ abbrev pub is_proposal_of : TxParts → ℕ → ℕ → Kind → Bool
 is_proposal_of tx i b (P2a other j c v) = (b == c) && instance_eq tx i other j
 is_proposal_of tx i b m = false
 
+-- what is proposed with one proposal more
 pub one_proposed : (tx : TxParts) (i b : ℕ) (m : Kind) (ms : List Kind)
     → is_proposed (m ∷ ms) tx i b ≡ (is_proposal_of tx i b m || is_proposed ms tx i b)
 one_proposed tx i b (P2a other j c v) ms = refl
 one_proposed tx i b m ms = refl
 
+-- a proposal of another transaction is none of this one
 pub no_proposal : (tx : TxParts) (i b : ℕ) (m : Kind) → tx_eq tx (message_tx m) ≡ false → is_proposal_of tx i b m ≡ false
 no_proposal tx i b (P2a other j c v) h = ap (λ t. (b == c) && ((i == j) && t)) h ∙ last_false (b == c) (i == j)
 no_proposal tx i b m h = refl
@@ -248,6 +263,7 @@ more_proposals tx other i b c (p ∷ ps) before h =
     ∙ ap (λ t. t || is_proposed (proposal_kinds other c ps ++ before) tx i b) (no_proposal tx i b (P2a other p.instance c p.vote) h)
     ∙ more_proposals tx other i b c ps before h
 
+-- proposals of another transaction leave a memory the same
 pub proposed_elsewhere : (tx other : TxParts) (b : ℕ) (proposals : List Proposal) (memory : LeaderMemory) → tx_eq tx other ≡ false
     → SameOn tx memory (with_proposed (proposal_kinds other b proposals) memory)
 proposed_elsewhere tx other b proposals memory h = record {
@@ -262,6 +278,7 @@ proposed_elsewhere tx other b proposals memory h = record {
   met_is = refl;
 }
 
+-- so does its ballot
 pub begun_elsewhere : (tx other : TxParts) (b : ℕ) (memory : LeaderMemory) → tx_eq tx other ≡ false
     → SameOn tx memory (with_begun other b memory)
 begun_elsewhere tx other b memory h = record {

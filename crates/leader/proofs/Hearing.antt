@@ -30,6 +30,7 @@ abbrev reported_if : ℕ → InstanceReport → InstanceCourse → Bool → Inst
 reported_if a item row t =
     if t && not (has row.reporters a) then record row { reporters = joined a row.reporters; best = merged item.report row.best } else row
 
+-- the first report of an instance is the one that is heard
 pub heard_first : (a : ℕ) (items : List InstanceReport) (row new : InstanceCourse) (report : Report)
     → first_report row.instance items ≡ Some report → new ≡ with_said a report row → has new.reporters a ≡ true
     → new ≡ with_reports a items row
@@ -45,6 +46,7 @@ heard_first a (item ∷ items) row new report e is heard =
         ∙ ap (with_reports a items) (is ∙ ap (λ r. with_said a r row) (sym (some_report item.report report f)))
     by false f rest = rest f
 
+-- where there is none, the instance stays
 pub not_heard : (a : ℕ) (items : List InstanceReport) (row : InstanceCourse) → first_report row.instance items ≡ None
     → row ≡ with_reports a items row
 not_heard a [] row none = refl

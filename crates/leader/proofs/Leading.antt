@@ -39,6 +39,7 @@ use Rattle.leader.proofs.Beginning.{meet_step, begin_step}
 use Rattle.leader.proofs.Rules.{Agrees, status_is, changed_stands, agreed_stands, kept_stands, commit_rule, ask_rule, accepts_rule}
 use Rattle.leader.proofs.Rules.{reports_rule}
 
+-- a decision that sends alone
 abbrev pub sending : List Outgoing → Decision
 sending sends = record { answer = Done; fact = None; sends = sends }
 
@@ -46,11 +47,13 @@ sending sends = record { answer = Done; fact = None; sends = sends }
 abbrev pub with_courses : LeaderParts → CoursesParts → LeaderParts
 with_courses l courses = record l { courses = courses }
 
+-- what a leader stands for, an equal one does
 pub moved : (config : Config) (number : ℕ) (inner old : LeaderParts) (stored : StoredBallots) (memory : LeaderMemory) → inner ≡ old
     → StandsForBallots config number old stored memory → StandsForBallots config number inner stored memory
 moved config number inner old stored memory is stands =
     let P : LeaderParts → Type 0 = λ l. StandsForBallots config number l stored memory in subst P (sym is) stands
 
+-- a course that changed as its rule says follows the rule
 pub follows : (config : Config) (number : ℕ) (inner old : LeaderParts) (courses : CoursesParts) (tx : TxParts) (c : CourseParts)
     (decided : Decision) (decision : LeaderDecision) (rule : Rule) → inner ≡ old → shown decision ≡ decided
     → IsChanged inner.courses courses tx c
@@ -66,6 +69,7 @@ follows config number inner old courses tx c decided decision rule is shows chan
   begun_is = changed.begun_is ∙ ap (λ (l : LeaderParts). l.courses.begun) is;
 }
 
+-- what changed nothing at any course is the same
 pub kept_same : (config : Config) (number : ℕ) (inner old : LeaderParts) (courses : CoursesParts) → inner ≡ old
     → IsKept inner.courses courses
     → IsSame config number old (with_courses inner courses)
@@ -75,12 +79,14 @@ kept_same config number inner old courses is kept = record {
   begun_is = kept.begun_is ∙ ap (λ (l : LeaderParts). l.courses.begun) is;
 }
 
+-- a decision that follows the rule, where it was not refused
 pub ok_follows : (config : Config) (number : ℕ) (old new : LeaderParts) (r : Result LeaderDecision Refusal) (decision : LeaderDecision)
     (rule : Rule)
     → r ≡ Ok decision → Follows config number old new decision rule → FollowsOrRefuses config number old new r rule
 ok_follows config number old new r decision rule is h =
     let P : Result LeaderDecision Refusal → Type 0 = λ x. FollowsOrRefuses config number old new x rule in subst P (sym is) h
 
+-- a refusal for want of memory that left all the same
 pub err_same : (config : Config) (number : ℕ) (old new : LeaderParts) (r : Result LeaderDecision Refusal) (e : Refusal) (rule : Rule)
     → r ≡ Err e → e ≡ NoMemory → IsSame config number old new → FollowsOrRefuses config number old new r rule
 err_same config number old new r e rule is memory h =
@@ -126,6 +132,7 @@ inside_here : (config : Config) (managers : ℕ) (tx : TxParts) → managers ≡
     → is_inside config tx ≡ true
 inside_here config managers tx is below = ap (λ n. are_below n (participants tx)) (sym is) ∙ below
 
+-- a call to commit, by its rule
 pub commit_agrees : (config : Config) (number : ℕ) (l : LeaderParts) (tx : TxParts) → are_below l.managers (participants tx) ≡ true
     → (stored : StoredBallots) (memory : LeaderMemory) → StandsForBallots config number l stored memory
     → Agrees config.acceptors stored memory tx (record {
@@ -137,12 +144,14 @@ commit_agrees config number l tx below stored memory stands =
     commit_rule config stored memory tx (course_of l tx) (stands.courses_are tx)
     (inside_here config l.managers tx stands.managers_are below)
 
+-- a question
 pub ask_agrees : (config : Config) (number : ℕ) (l : LeaderParts) (tx : TxParts) (rm : ℕ) (stored : StoredBallots) (memory : LeaderMemory)
     → StandsForBallots config number l stored memory
     → Agrees config.acceptors stored memory tx (sending (outcome_messages (status_in (after_meeting (course_of l tx))) tx (Node (R rm))))
     (after_meeting (course_of l tx)) (rules.on_ask config stored memory tx rm)
 ask_agrees config number l tx rm stored memory stands = ask_rule config stored memory tx rm (course_of l tx) (stands.courses_are tx)
 
+-- accepts
 pub accepts_agree : (config : Config) (number : ℕ) (l : LeaderParts) (tx : TxParts) (a : ℕ) (items : List InstanceAccept)
     → a < most_acceptors
     → (stored : StoredBallots) (memory : LeaderMemory) → StandsForBallots config number l stored memory
@@ -155,6 +164,7 @@ accepts_agree config number l tx a items within stored memory stands =
     (after_2b n a items (course_of l tx)) (rules.on_2b config stored memory tx a items) in
     subst P (sym stands.acceptors_are) (accepts_rule config stored memory tx a items (course_of l tx) within (stands.courses_are tx))
 
+-- reports
 pub reports_agree : (config : Config) (number : ℕ) (l : LeaderParts) (tx : TxParts) (b a : ℕ) (items : List InstanceReport)
     → a < most_acceptors
     → AllByRecursion (λ rm. IsTrue (is_participant tx rm)) (map (λ item. item.instance) items)
@@ -251,6 +261,7 @@ known_before stored memory tx some =
     or_yes true = refl
     or_yes false = refl
 
+-- a ballot that began, of one that is stored
 pub begin_stands : (config : Config) (number : ℕ) (inner old : LeaderParts) (courses : CoursesParts) (tx : TxParts) (b : ℕ)
     (stored : StoredBallots) (memory : LeaderMemory) → inner ≡ old
     → (0 < (course_of inner tx).greatest → IsChanged inner.courses courses tx (after_beginning b (course_of inner tx)))
@@ -278,6 +289,7 @@ begin_stands config number inner old courses tx b stored memory is changed stand
 
 -- ---- a ballot stored
 
+-- the greatest ballot with one fact more
 pub greatest_with : (facts : List Fact) (tx : TxParts) (fact : Fact)
     → last_ballot (facts ++ fact ∷ []) tx ≡ max (last_ballot facts tx) (greatest (cons_option (ballot_begun tx fact) []))
 greatest_with [] tx fact = omega arith
@@ -291,6 +303,7 @@ greatest_with (first ∷ facts) tx fact = by (ballot_begun tx first) (greatest_w
     by None h = h
     by (Some n) h = omega (arith, h)
 
+-- so the ballot of each transaction, once a greater one is stored
 pub stored_ballot : (facts : List Fact) (tx other : TxParts) (b : ℕ) → last_ballot facts tx < b
     → last_ballot (facts ++ Fact.Ballot tx b ∷ []) other ≡ (if tx_eq other tx then b else last_ballot facts other)
 stored_ballot facts tx other b more = greatest_with facts other (Fact.Ballot tx b)
@@ -300,6 +313,7 @@ stored_ballot facts tx other b more = greatest_with facts other (Fact.Ballot tx 
       | false ↦ λ e. omega arith
     ] refl)
 
+-- and the leader stands for the facts with that ballot
 pub store_stands : (config : Config) (number : ℕ) (inner old : LeaderParts) (courses : CoursesParts) (tx : TxParts) (b : ℕ)
     (facts : List Fact) (memory : LeaderMemory) → inner ≡ old → IsChanged inner.courses courses tx (after_ballot b (course_of inner tx))
     → (course_of inner tx).greatest < b → list_any (tx_eq tx) inner.courses.begun ≡ true
@@ -386,6 +400,7 @@ pub record TakesOver (config : Config) (number : ℕ) (l : LeaderParts) (tx : Tx
   pub stands : IfNone decision.fact (StandsForBallots config number l stored
       (rules.on_leader_timeout config number stored memory tx).memory)
 
+-- a timeout, by its rule, where the next ballot is to be stored
 pub takes_over_here : (config : Config) (number : ℕ) (inner old : LeaderParts) (tx : TxParts) (decision : LeaderDecision)
     (stored : StoredBallots)
     (memory : LeaderMemory) → inner ≡ old → are_below inner.managers (participants tx) ≡ true

@@ -62,12 +62,14 @@ module _ (ts : List TxParts) (rows : List CourseParts) (places : OrderParts) (in
   last : us ≡ ts ++ tx ∷ []
   last = added ∙ ap (λ (t : Bool). if t then ts else ts ++ tx ∷ []) (absent_from_place (tx_eq tx) ts none_here)
 
+  -- one course more at the end is still in place
   pub put_inside : IsCourses us more places
   put_inside = (
     ap length pushed ∙ length_push rows course ∙ ap (λ (n : ℕ). n + 1) inside.0 ∙ sym (length_push ts tx) ∙ ap length (sym last),
     still_inside places.numbers (length ts) (length us) (omega (arith, ap length last, length_push ts tx)) inside.1,
   )
 
+  -- the parts with it
   pub put_parts : courses_at us more places ≡ record courses {
     transactions = courses.transactions ++ tx ∷ [];
     rows = courses.rows ++ course ∷ [];
@@ -117,11 +119,13 @@ module _ (place : Place) where
         (new_passing p ts n tx once within here (ap not above))
         ∙ sym (last_more above)
 
+    -- a transaction below the floor doesn't begin again
     pub begins_not : (start left : CoursesParts) → is_below (Some place) tx ≡ true → HasBegun start (filter p (take n ts)) left
         → HasBegun start (filter p (take (n + 1) ts)) left
     begins_not start left below has =
         record { courses_are = has.courses_are; begun_are = has.begun_are ∙ sym (none_more below) }
 
+    -- one that isn't does
     pub begins_there : (start left made next : CoursesParts) (room : ℕ) → IsDistinct tx_eq ts → is_below (Some place) tx ≡ false
         → IsKept left made → next ≡ with_room (with_beginning made tx) room → HasBegun start (filter p (take n ts)) left
         → HasBegun start (filter p (take (n + 1) ts)) next
@@ -137,6 +141,7 @@ module _ (place : Place) where
 
   module _ (ts : List TxParts) (rows : List CourseParts) (begun : List TxParts) (n : ℕ) (tx : TxParts) (once : IsDistinct tx_eq ts)
       (within : n < length ts) (here : get_or ts n no_transaction ≡ tx) where
+    -- the course of one below the floor isn't put
     pub left_out : (left : CoursesParts) → is_below (Some place) tx ≡ true
         → HasCoursesOf (row_in ts rows) (filter p (take n ts)) begun left
         → HasCoursesOf (row_in ts rows) (filter p (take (n + 1) ts)) begun left
@@ -145,6 +150,7 @@ module _ (place : Place) where
 
     module _ (above : is_below (Some place) tx ≡ false) (left : CoursesParts)
         (has : HasCoursesOf (row_in ts rows) (filter p (take n ts)) begun left) where
+      -- one that is to be put has no place yet
       pub has_no_place : place_in left.transactions tx ≡ length left.transactions
       has_no_place =
           absent_place (tx_eq tx) left.transactions
@@ -156,6 +162,7 @@ module _ (place : Place) where
           ∙ ap (λ (k : ℕ). get_or rows k (fresh tx))
           (sym (number_at ts n no_transaction once within) ∙ ap (place_in ts) here)
 
+      -- and its course is put at the end
       pub put_there : (course : CourseParts) → n < length rows → course ≡ get_or rows n course → (next : CoursesParts)
           → next ≡ record left { transactions = left.transactions ++ tx ∷ []; rows = left.rows ++ course ∷ [] }
           → HasCoursesOf (row_in ts rows) (filter p (take (n + 1) ts)) begun next

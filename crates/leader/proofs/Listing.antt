@@ -16,6 +16,7 @@ module _ (ts : List TxParts) (rows : List CourseParts) (places new : OrderParts)
   found_here : IsPlaceOf (courses_at ts rows places) tx (Some place)
   found_here = subst (λ (k : CoursesParts). IsPlaceOf k tx (Some place)) (sym view_is) found
 
+  -- places stay those of courses with one more
   pub still_courses : (r : Result (Unit {0}) Refusal) → AreInside (length ts) places.numbers
       → OnOk r (new.numbers ≡ numbered_with places.numbers place) → OnErr r (new.numbers ≡ places.numbers)
       → AreInside (length ts) new.numbers
@@ -23,6 +24,7 @@ module _ (ts : List TxParts) (rows : List CourseParts) (places new : OrderParts)
       subst (AreInside (length ts)) (sym is) (inside_with (length ts) place places.numbers each found_here.1)
   still_courses (Err e) each is same = subst (AreInside (length ts)) (sym same) each
 
+  -- the courses with one more that begins
   pub listed_now : (r : Result (Unit {0}) Refusal) → IsDistinct tx_eq ts → AreInside (length ts) places.numbers
       → OnOk r (new.numbers ≡ numbered_with places.numbers place)
       → OnOk r (courses_at ts rows new ≡ with_room (with_beginning courses tx) new.room)
@@ -32,6 +34,7 @@ module _ (ts : List TxParts) (rows : List CourseParts) (places new : OrderParts)
       ∙ ap (λ (k : CoursesParts). with_room (with_beginning k tx) new.room) view_is
   listed_now (Err e) once each is = tt
 
+  -- or as they were, where it was refused
   pub as_before : (r : Result (Unit {0}) Refusal) → OnErr r (new.numbers ≡ places.numbers)
       → OnErr r (courses_at ts rows new ≡ with_room courses new.room)
   as_before (Ok done) same = tt

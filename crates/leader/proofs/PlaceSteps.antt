@@ -21,6 +21,7 @@ IsCourses ts rows order = (length rows ≡ length ts) × AreInside (length ts) o
 
 -- ---- a look-up, by the fields that some courses are kept in
 
+-- the courses of transactions, and the places of those that begin
 abbrev pub courses_at : List TxParts → List CourseParts → OrderParts → CoursesParts
 courses_at ts rows order = record { transactions = ts; rows = rows; begun = at_places ts order.numbers; room = order.room }
 
@@ -79,6 +80,7 @@ module _ (ts : List TxParts) (rows : List CourseParts) (places : OrderParts) (in
       abbrev there : CoursesParts
       there = courses_at us more places
 
+      -- one course more at the end is in place
       pub added_inside : IsCourses us more places
       added_inside = (
         ap length pushed ∙ length-append rows (fresh tx ∷ []) ∙ ap (λ n. n + 1) each ∙ sym (length-append ts (tx ∷ []))
@@ -86,6 +88,7 @@ module _ (ts : List TxParts) (rows : List CourseParts) (places : OrderParts) (in
         still_inside places.numbers (length ts) (length us) (omega (arith, ap length last, length-append ts (tx ∷ []))) inside.1,
       )
 
+      -- all others are kept
       pub added_kept : IsKept courses there
       added_kept = record {
         begun_is = (λ k. at_places (last k) places.numbers) ∙ at_places_grown ts tx places.numbers inside.1 ∙ ap (λ k. k.begun) is;
@@ -94,6 +97,7 @@ module _ (ts : List TxParts) (rows : List CourseParts) (places : OrderParts) (in
             ∙ ap (λ k. course_in k other) is;
       }
 
+      -- and it is found where it was put
       pub added_there : (i : ℕ) → i ≡ place_in ts tx → IsPlaceOf there tx (Some i)
       added_there i at =
           let P : List TxParts → Type 0 = λ xs. (i ≡ place_in xs tx) × (i < length xs) in
@@ -130,6 +134,7 @@ none_aborted : (branches : List BranchParts) → list_any (λ row. row.aborted) 
 none_aborted [] = refl
 none_aborted (b ∷ branches) = none_aborted branches
 
+-- a new course is unknown
 pub fresh_status : (branches : List BranchParts) → 0 < length branches
     → status_by false (map fresh_instance (map (λ b. b.rm) branches)) ≡ Status.Unknown
 fresh_status [] some = absurd (omega arith)

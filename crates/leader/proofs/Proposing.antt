@@ -88,6 +88,7 @@ proposals_are config memory tx b rows (item ∷ items) now stand all named =
     (proposals_are config memory tx b rows items now stand all named.1 k))
     ∙ cons_kinds tx b (proposal_at config.acceptors rows item.instance) (proposals_of config.acceptors rows items)
 
+-- the messages of proposals are sent to each acceptor
 pub messages_are : (tx : TxParts) (b : ℕ) (ps : List Proposal) → map (to Acceptors) (proposal_kinds tx b ps) ≡ proposal_messages tx b ps
 messages_are tx b [] = refl
 messages_are tx b (p ∷ ps) = ap (λ ms. to Acceptors (kind_of tx b p) ∷ ms) (messages_are tx b ps)
@@ -119,6 +120,7 @@ named_cons : (tx : TxParts) (i : ℕ) (o : Option Proposal) (ps : List Proposal)
 named_cons tx i None ps same named rest = rest
 named_cons tx i (Some p) ps same named rest = (let P : ℕ → Type 0 = λ k. IsTrue (is_participant tx k) in subst P (sym same) named, rest)
 
+-- what is proposed is of the transaction
 pub proposals_named : (tx : TxParts) (n : ℕ) (rows : List InstanceCourse) (items : List InstanceReport)
     → AreParticipants tx (map (λ item. item.instance) items) → AreOf tx (proposals_of n rows items)
 proposals_named tx n rows [] named = tt
@@ -159,6 +161,7 @@ row_proposed n tx b ps memory row now stands = record {
   aborted_is = stands.aborted_is;
 }
 
+-- a course stands for the memory with what was proposed
 pub propose_step : (n : ℕ) (stored : StoredBallots) (tx : TxParts) (b : ℕ) (ps : List Proposal) (memory : LeaderMemory) (c : CourseParts)
     → current memory tx ≡ Some b → CourseStands n stored memory tx c
     → CourseStands n stored (with_proposed (proposal_kinds tx b ps) memory) tx (after_proposals ps c)

@@ -139,6 +139,7 @@ untouched_if : (tx : TxParts) (i b : ℕ) (report : Report) (a : ℕ) (memory : 
 untouched_if tx i b report a memory true = record { current_is = refl; met_is = refl; told_is = λ j c v x. refl }
 untouched_if tx i b report a memory false = record { current_is = refl; met_is = refl; told_is = λ j c v x. refl }
 
+-- reports change nothing in a memory but what was heard
 pub reports_leave : (tx : TxParts) (b a : ℕ) (items : List InstanceReport) (memory : LeaderMemory)
     → Untouched tx memory (with_all_heard (report_messages tx b a items) memory)
 reports_leave tx b a [] memory = record { current_is = refl; met_is = refl; told_is = λ j c v x. refl }

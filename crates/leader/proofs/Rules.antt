@@ -54,6 +54,7 @@ prepared_among : (n : ℕ) (memory : LeaderMemory) (tx : TxParts) (rows : List I
 prepared_among n memory tx [] stand = refl
 prepared_among n memory tx (row ∷ rows) stand = λ k. sym stand.0.prepared_is k && prepared_among n memory tx rows stand.1 k
 
+-- the status at a course is the one of the memory
 pub status_is : (n : ℕ) (stored : StoredBallots) (memory : LeaderMemory) (tx : TxParts) (c : CourseParts)
     → CourseStands n stored memory tx c
     → status_of n stored memory tx ≡ status_in c
@@ -99,6 +100,7 @@ changed_stands config number old courses tx c stored after memory next stands ch
       subst (λ (txs : List TxParts). list_any (tx_eq x) txs ≡ true) (sym changed.begun_is) (begun x some);
 }
 
+-- what agrees with a rule stands for its memory
 pub agreed_stands : (config : Config) (number : ℕ) (old : LeaderParts) (courses : CoursesParts) (tx : TxParts) (c : CourseParts)
     (decision : Decision) (stored : StoredBallots) (memory : LeaderMemory) (e : Effect LeaderMemory)
     → StandsForBallots config number old stored memory → IsChanged old.courses courses tx c
@@ -109,6 +111,7 @@ agreed_stands config number old courses tx c decision stored memory e stands cha
     (λ other differs. course_same config.acceptors stored other (course_of old other) memory e.memory (agrees.elsewhere other differs))
     stands.begun_are
 
+-- what changed nothing stands for the same memory
 pub kept_stands : (config : Config) (number : ℕ) (old : LeaderParts) (courses : CoursesParts) (stored : StoredBallots)
     (memory : LeaderMemory)
     → IsKept old.courses courses → StandsForBallots config number old stored memory
@@ -128,6 +131,7 @@ kept_stands config number old courses stored memory kept stands = record {
 
 -- ---- commit and ask
 
+-- a call to commit
 pub commit_rule : (config : Config) (stored : StoredBallots) (memory : LeaderMemory) (tx : TxParts) (c : CourseParts)
     → CourseStands config.acceptors stored memory tx c → is_inside config tx ≡ true
     → Agrees config.acceptors stored memory tx (record {
@@ -171,6 +175,7 @@ outcome_met known rows tx whom =
     by_tests false false true = refl
     by_tests false false false = refl
 
+-- a question
 pub ask_rule : (config : Config) (stored : StoredBallots) (memory : LeaderMemory) (tx : TxParts) (rm : ℕ) (c : CourseParts)
     → CourseStands config.acceptors stored memory tx c
     → Agrees config.acceptors stored memory tx (record {
@@ -191,6 +196,7 @@ ask_rule config stored memory tx rm c stands = record {
 
 -- ---- phase 2b
 
+-- accepts
 pub accepts_rule : (config : Config) (stored : StoredBallots) (memory : LeaderMemory) (tx : TxParts) (a : ℕ) (items : List InstanceAccept)
     (c : CourseParts) → a < most_acceptors → CourseStands config.acceptors stored memory tx c
     → Agrees config.acceptors stored memory tx (record {
@@ -245,6 +251,7 @@ current_of : (o : Option ℕ) (b : ℕ) → option_map_or (λ last. last == b) o
 current_of None b h = absurd (false≢true h)
 current_of (Some last) b h = ap Some (eqb-true last b h)
 
+-- reports
 pub reports_rule : (config : Config) (stored : StoredBallots) (memory : LeaderMemory) (tx : TxParts) (b a : ℕ) (items : List InstanceReport)
     (c : CourseParts) → a < most_acceptors → AllByRecursion (λ rm. IsTrue (is_participant tx rm)) (map (λ item. item.instance) items)
     → CourseStands config.acceptors stored memory tx c

@@ -164,6 +164,7 @@ roomed_kept old made new kept is = record {
   courses_are = λ x. ap (λ (k : CoursesParts). course_in k x) is ∙ kept.courses_are x;
 }
 
+-- where there is room for one transaction more, a ballot is made ready for
 pub roomed_ready : (made new : CoursesParts) (tx : TxParts) (place : ℕ) (r : Result (Unit {0}) Refusal) → IsPlaceOf made tx (Some place)
     → new ≡ with_room made new.room → OnOk r (0 < new.room) → OnOk r (is_ready_in new tx ≡ true)
 roomed_ready made new tx place (Ok done) there is some =

@@ -25,6 +25,7 @@ use Rattle.leader.proofs.Basics.{tx_self, nat_turned, is_false}
 
 -- ---- an acceptor more
 
+-- who has told, with one more
 pub has_joined : (members : List Bool) (a x : ℕ) → a < length members → has (joined a members) x ≡ ((x == a) || has members x)
 has_joined members a x within = elim (cases_Bool (x == a)) [
   | inl h ↦ ap (λ k. get_or (joined a members) k false) (eqb-true x a h) ∙ get_or-set_same members a true false within
@@ -40,6 +41,7 @@ vote_turned Vote.Prepared Vote.Aborted = refl
 vote_turned Vote.Aborted Vote.Prepared = refl
 vote_turned Vote.Aborted Vote.Aborted = refl
 
+-- a vote passes the test with itself
 pub vote_self : (v : Vote) → vote_eq v v ≡ true
 vote_self Vote.Prepared = refl
 vote_self Vote.Aborted = refl
@@ -96,6 +98,7 @@ none_of zero x = refl
 none_of (suc n) zero = refl
 none_of (suc n) (suc x) = none_of n x
 
+-- nobody has told at first
 pub has_nobody : (x : ℕ) → has nobody x ≡ false
 has_nobody x = none_of most_acceptors x
 
@@ -335,6 +338,7 @@ pub all_kept : {X : Type 0} (P Q : X → Type 0) → ((x : X) → P x → Q x) �
 all_kept P Q step [] all = tt
 all_kept P Q step (x ∷ xs) all = (step x all.0, all_kept P Q step xs all.1)
 
+-- what changes at instances leaves which they are
 pub instances_kept : (f : InstanceCourse → InstanceCourse) → ((row : InstanceCourse) → (f row).instance ≡ row.instance)
     → (rows : List InstanceCourse)
     → map (λ row. row.instance) (map f rows) ≡ map (λ row. row.instance) rows

@@ -120,6 +120,7 @@ module _ (n a : ℕ) (item : InstanceAccept) (rows : List Told) where
             ∙ sym (told_there item.instance item.ballot item.vote a rows old (omega (arith, at, within)))
             ∙ sym (ap (λ t. if t then rows else then_) (ap (λ m. has m a) told_before ∙ e))
 
+    -- one more who told makes a majority at its place where it does among all
     pub makes_at : completes n a old ≡ makes_majority n a item rows
     makes_at = λ m. not (has (sym told_before m) a) && is_majority n (has (told_after m))
       where
@@ -136,6 +137,7 @@ module _ (n a : ℕ) (item : InstanceAccept) (rows : List Told) where
         sym (told_new item.instance item.ballot item.vote a rows none)
         ∙ sym (ap (λ o. if has (members_in [] o) a then rows else then_) nothing)
 
+    -- so it is where nobody told of that ballot and value before
     pub makes_first : is_majority n (has (joined a nobody)) ≡ makes_majority n a item rows
     makes_first = λ m. not (has (members_in [] (sym nothing m)) a) && is_majority n (has (told_after m))
       where

@@ -81,6 +81,7 @@ module _ (place : Place) (facts : List Fact) where
 
   -- ---- what is stored
 
+  -- what is stored of a transaction that isn't below the floor is kept
   pub stored_kept : (tx : TxParts) → is_below (Some place) tx ≡ false → stored_in kept tx ≡ stored_in facts tx
   stored_kept tx high = λ k. record {
     voted_prepared = tested (is_vote_of tx Vote.Prepared) (other_vote tx Vote.Prepared) k;
@@ -116,12 +117,14 @@ module _ (place : Place) (facts : List Fact) where
       let high = not-true (is_below (Some place) tx) (filter_kept (is_kept (Some place)) facts (stored.VotePrepared tx keys) h).1 in
       uncommitted facts tx (ap is_prepared_view (sym (view_kept (Some place) tx high facts)) ∙ prepared)
 
+  -- the same branches are bound, where none of them is below
   pub bound_same : ((tx : TxParts) → view facts tx ≡ views.Prepared → is_below (Some place) tx ≡ false)
       → bound_branches left ≡ bound_branches facts
   bound_same free = bound_left facts kept open_kept ∙ bound_kept (Some place) facts free
 
   -- ---- its table
 
+  -- the table is the same, where it begins with the rows that are
   pub rows_same : (config next : Config) (rm : ℕ) → first_rows next rm ≡ table (first_rows config rm) facts
       → table (first_rows next rm) left ≡ table (first_rows config rm) facts
   rows_same config next rm begins =
@@ -157,6 +160,7 @@ module _ (place : Place) (config next : Config) (number : ℕ) (old left_one : M
     ordered = stands.apart.ordered;
   }
 
+  -- what is left of a resource manager stands for what is left of its facts
   pub manager_stands : left_one.number ≡ old.number → left_one.managers ≡ old.managers → next.managers ≡ config.managers
       → left_one.table ≡ old.table → StandsFor next number left_one (left place facts) branches
   manager_stands number_is managers sizes tables = record {

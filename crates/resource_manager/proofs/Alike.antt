@@ -57,6 +57,7 @@ module _ (over config : Config) (number : ℕ) (kept facts : List Fact) (same : 
       keys_of_vote over number kept name.0 same.kept_play tx vote.0 vote.1 name.1
       ∙ sym (keys_of_vote config number facts name.0 same.play tx vote.0 also.voted name.1)
 
+  -- the keys that were voted for are the same where nothing has ended
   pub keys_at_first : (course : TxParts → Course) → ((tx : TxParts) → stored_in facts tx ≡ stored_by (course tx)) → AreKeysSame kept facts
   keys_at_first course are tx uncommitted unaborted = by (course tx) (are tx)
     where

@@ -33,6 +33,7 @@ abbrev pub Ascend : List Row → Type 0
 Ascend [] = Unit {0}
 Ascend (row ∷ rows) = AreAfter row.key rows × Ascend rows
 
+-- rows that ascend pass the test
 pub ascending : (rows : List Row) → Ascend rows → are_ascending rows ≡ true
 ascending [] are = refl
 ascending (row ∷ []) are = refl

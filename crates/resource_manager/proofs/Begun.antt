@@ -32,9 +32,11 @@ fold_push : (seen : List TxParts) (facts : List Fact) (fact : Fact)
 fold_push seen [] fact = refl
 fold_push seen (f ∷ facts) fact = fold_push (seen_after seen f) facts fact
 
+-- with one fact more
 pub begun_more : (facts : List Fact) (fact : Fact) → begun_in (facts ++ fact ∷ []) ≡ seen_with (begun_in facts) (fact_tx fact)
 begun_more facts fact = fold_push [] facts fact
 
+-- with more facts
 pub begun_append : (seen : List TxParts) (facts more : List Fact)
     → fold seen_after seen (facts ++ more) ≡ fold seen_after (fold seen_after seen facts) more
 begun_append seen [] more = refl
@@ -70,6 +72,7 @@ module _ (q : TxParts → Bool) where
       ∙ or_after (list_any q (seen_after seen f)) (list_any q seen) (q (fact_tx f)) (list_any (λ g. q (fact_tx g)) facts)
       (any_seen seen (fact_tx f))
 
+  -- some transaction passes a test where some fact is about one that does
   pub any_begun : (facts : List Fact) → list_any q (begun_in facts) ≡ list_any (λ f. q (fact_tx f)) facts
   any_begun facts = any_from [] facts
 
@@ -93,6 +96,7 @@ again_from seen (f ∷ facts) same = again_from (seen_after seen f) facts (by (l
         let more : seen_after seen f ≡ seen ++ fact_tx f ∷ [] = ap (λ t. cond t seen (seen ++ fact_tx f ∷ [])) e in
         ap (fold seen_with []) more ∙ tx_push [] seen (fact_tx f) ∙ ap (λ s. seen_with s (fact_tx f)) same
 
+-- what has begun once, begins no more
 pub begun_again : (facts : List Fact) → fold seen_with [] (begun_in facts) ≡ begun_in facts
 begun_again facts = again_from [] facts refl
 
@@ -102,6 +106,7 @@ begun_again facts = again_from [] facts refl
 abbrev pub is_begun : Stored → Bool
 is_begun stored = (stored.voted_prepared || stored.voted_aborted) || (stored.committed || stored.aborted)
 
+-- a course has begun where it isn't new
 pub begun_course : (c : Course) → is_begun (stored_by c) ≡ not (is_new_course c)
 begun_course Course.Working = refl
 begun_course Course.Prepared = refl
@@ -110,6 +115,7 @@ begun_course Course.Committed = refl
 begun_course Course.RolledBack = refl
 begun_course Course.AbortedUnvoted = refl
 
+-- four tests in another order
 pub or_four : (a b c d : Bool) → ((a || b) || (c || d)) ≡ ((a || c) || (b || d))
 or_four true b c d = refl
 or_four false true true d = refl
@@ -147,6 +153,7 @@ module _ (tx : TxParts) where
       ∙ (λ i. or_four prepared aborted rest.voted_prepared rest.voted_aborted i
       || or_four committed dropped rest.committed rest.aborted i)
 
+  -- a transaction has begun where something of it is stored
   pub begun_test : (config : Config) (rm : ℕ) (facts : List Fact) → all_play config (R rm) [] facts ≡ true
       → list_any (tx_eq tx) (begun_in facts) ≡ is_begun (stored_in facts tx)
   begun_test config rm facts play =
@@ -159,6 +166,7 @@ turned : {X : Type 0} (b : Bool) (x y : X) → cond b x y ≡ cond (not b) y x
 turned true x y = refl
 turned false x y = refl
 
+-- the courses that have begun, with one fact more
 pub begun_then : (config : Config) (number : ℕ) (m : ManagerParts) (facts : List Fact) (branches : List Branch)
     → StandsFor config number m facts branches → (fact : Fact) → begun_with m.courses (fact_tx fact) ≡ begun_in (facts ++ fact ∷ [])
 begun_then config number m facts branches stands fact =

@@ -69,6 +69,7 @@ module _ (test : BranchView → Bool) (none : test no_branch ≡ false) (bs : Li
           (λ f. is.1 (sym found.1 ∙ (xid_decides b.xid x).0 f))))
           (sym (ap test (view_of_named bs is.0 ∙ ap view_or_none e)) ∙ is.2))
 
+  -- whether a branch is hindered is what the views say
   pub busy_decides : Decides (is_hindered test bs x) (IsHindered test (view_named bs) x)
   busy_decides = (hindered_by, hindered_to)
 
@@ -287,11 +288,13 @@ pub put_named : (spent : Bool) (key value : List ℕ) (rows : List Row) (view : 
 put_named true key value rows view busy = refl
 put_named false key value rows view busy = refl
 
+-- a delete by name is answered as one by its view
 pub del_named : (spent : Bool) (key : List ℕ) (rows : List Row) (view : BranchView) (busy : Bool)
     → named_answer spent rows view busy (Del key) ≡ call_answer rows view busy (Del key)
 del_named true key rows view busy = refl
 del_named false key rows view busy = refl
 
+-- so is a get
 pub get_named : (spent : Bool) (key : List ℕ) (rows : List Row) (view : BranchView) (busy : Bool)
     → named_answer spent rows view busy (Get key) ≡ call_answer rows view busy (Get key)
 get_named true key rows view busy = refl
@@ -307,11 +310,13 @@ pub fail_named : (spent : Bool) (rows : List Row) (view : BranchView) (busy : Bo
 fail_named true rows view busy = refl
 fail_named false rows view busy = refl
 
+-- a rollback
 pub rollback_named : (spent : Bool) (rows : List Row) (view : BranchView) (busy : Bool)
     → named_answer spent rows view busy Rollback ≡ call_answer rows view busy Rollback
 rollback_named true rows view busy = refl
 rollback_named false rows view busy = refl
 
+-- and a start of a name that isn't spent
 pub start_named : (spent : Bool) → spent ≡ false → (rows : List Row) (view : BranchView) (busy : Bool)
     → named_answer spent rows view busy Start ≡ call_answer rows view busy Start
 start_named true e rows view busy = absurd (cc (e))
@@ -410,6 +415,7 @@ module _ (config : Config) (number : ℕ) (m : ManagerParts) (now : TableState) 
   pub is_call : IsCall config number m (with_table m now) x action answer
   is_call = record { answers = answer_is; stands = stands_after }
 
+-- a step of the table is the call of the machine
 pub called : (m old : ManagerParts) (now : TableState) (x : XidParts) (action : Action) (answer : Answer) → m ≡ old → IsNamed m x action
     → Steps m.table now x action answer → (config : Config) (number : ℕ) → IsCall config number old (with_table m now) x action answer
 called m old now x action answer e named steps config number =

@@ -124,6 +124,7 @@ module _ (m : ManagerParts) (tx : TxParts) where
       ap (λ o. on_manager_message number (stored_votes number facts) branches o (kinds.Commit tx))
       (ap (xid_at tx) (sym stands.number_is) ∙ none))
 
+  -- a commit of what is prepared is stored
   pub commit_stored : (decision : Decision) (x : XidParts) → xid_at tx m.number ≡ Some x → course_in m.courses tx ≡ Course.Prepared
       → decision ≡ record { answer = Done; fact = Some (Fact.Committed tx); sends = [] } → Decides m decision commit_rule
   commit_stored decision x name prepared e = stores_fact m decision (Fact.Committed tx) [] commit_rule e
@@ -155,17 +156,20 @@ module _ (m : ManagerParts) (tx : TxParts) where
   abort_not number facts branches (Some x) e =
       ap (λ (t : Bool). if t then stores (branches_without branches x) (Fact.Aborted tx) [] else no_effect branches) e
 
+  -- an abort of what is over is ignored
   pub abort_ignored : (decision : Decision) (c : Course) → course_in m.courses tx ≡ c → is_open_view (view_of c) ≡ false
       → decision ≡ nothing → Decides m decision abort_rule
   abort_ignored decision c course ended e = tells m decision [] abort_rule e (λ config number facts branches stands.
       abort_not number facts branches (xid_at tx number)
       (ap is_open_view (view_is config number m facts branches stands tx c course) ∙ ended))
 
+  -- so is one of a transaction without a branch here
   pub abort_unnamed : (decision : Decision) → xid_at tx m.number ≡ None → decision ≡ nothing → Decides m decision abort_rule
   abort_unnamed decision none e = tells m decision [] abort_rule e (λ config number facts branches stands.
       ap (λ o. on_manager_message number (stored_votes number facts) branches o (kinds.Abort tx))
       (ap (xid_at tx) (sym stands.number_is) ∙ none))
 
+  -- every other abort is stored
   pub abort_stored : (decision : Decision) (x : XidParts) (c : Course) → xid_at tx m.number ≡ Some x → course_in m.courses tx ≡ c
       → is_open_view (view_of c) ≡ true → decision ≡ record { answer = Done; fact = Some (Fact.Aborted tx); sends = [] }
       → Decides m decision abort_rule
@@ -201,6 +205,7 @@ module _ (m : ManagerParts) (tx : TxParts) where
       else if ended then no_effect branches
       else first_vote number branches tx x spent idle
 
+  -- a prepare of a transaction without a branch here is ignored
   pub prepare_unnamed : (decision : Decision) → xid_at tx m.number ≡ None → decision ≡ nothing → Decides m decision prepare_rule
   prepare_unnamed decision none e = tells m decision [] prepare_rule e (λ config number facts branches stands.
       ap (λ o. on_manager_message number (stored_votes number facts) branches o (kinds.Prepare tx))
@@ -377,6 +382,7 @@ module _ (m : ManagerParts) (tx : TxParts) (config : Config) (number : ℕ) (fac
           absurd (both_ways (is_participant tx number) stranger
           (voted_named config number facts stands.played tx v (vote_in_stands facts tx v e)))
 
+  -- a timeout of one sends nothing
   pub timeout_stranger : (reminder : Reminder) (t : Bool) → t ≡ are_below m.managers (participants tx) → t ≡ true
       → is_participant tx m.number ≡ false → reminder ≡ record { answer = Done; vote = []; question = [] }
       → IsReminder reminder branches (on_manager_timeout config number (stored_votes number facts) branches tx)
@@ -385,6 +391,7 @@ module _ (m : ManagerParts) (tx : TxParts) (config : Config) (number : ℕ) (fac
       reminds reminder _ Done [] [] e
       (timeout_is true None false (inside_is config m.managers tx t stands.managers_are below ∙ inside) none.0 none.1)
 
+  -- and of one with a branch, the vote and the question
   pub timeout_named : (reminder : Reminder) (t : Bool) → t ≡ are_below m.managers (participants tx) → t ≡ true → (c : Course)
       → course_in m.courses tx ≡ c
       → reminder ≡ record { answer = Done; vote = vote_sent m.number tx (vote_of c); question = asked_by m.number tx c }
@@ -403,6 +410,7 @@ module _ (m : ManagerParts) (tx : TxParts) (config : Config) (number : ℕ) (fac
   abbrev view_by : Bool → Answer
   view_by known = if known then Stands (view_standing (view facts tx)) else Refused Refusal.BadTx
 
+  -- so is a view of one with a branch here
   pub view_named_here : (t : Bool) → t ≡ are_below m.managers (participants tx) → t ≡ true → is_participant tx m.number ≡ true
       → Stands (view_standing (view_of (course_in m.courses tx)))
       ≡ (on_view_call config number (stored_votes number facts) branches tx).answer
@@ -413,9 +421,11 @@ module _ (m : ManagerParts) (tx : TxParts) (config : Config) (number : ℕ) (fac
 
 -- ---- as the code asks
 
+-- the course of a transaction in an equal manager
 pub course_of : (m old : ManagerParts) (tx : TxParts) (c : Course) → m ≡ old → c ≡ course_in m.courses tx → course_in old.courses tx ≡ c
 course_of m old tx c e f = sym (f ∙ ap (λ (o : ManagerParts). course_in o.courses tx) e)
 
+-- a vote that is told again, by an equal number
 pub told_is : (d : Decision) (n o : ℕ) (tx : TxParts) (vote : Vote)
     → d ≡ record { answer = Done; fact = None; sends = vote_sent n tx (Some vote) } → n ≡ o
     → d ≡ record { answer = Done; fact = None; sends = vote_sent o tx (Some vote) }
@@ -430,6 +440,7 @@ ended_by Course.VotedAborted e f = absurd (cc (e))
 ended_by Course.Committed e f = absurd (cc (e))
 ended_by Course.RolledBack e f = absurd (cc (e))
 
+-- the first prepare of a transaction, where it was not refused
 pub first_shown : (r : Result MessageDecision Refusal) (m : ManagerParts) (tx : TxParts) (x : XidParts)
     → xid_at tx m.number ≡ Some x → course_in m.courses tx ≡ Course.Working
     → (is_spent_in m.spent x ≡ false → AreTableBranches m.table.branches)
@@ -457,6 +468,7 @@ other_by number facts branches (Some x) (kinds.Commit tx) is = absurd is
 other_by number facts branches (Some x) (kinds.Abort tx) is = absurd is
 other_by number facts branches (Some x) message is = refl
 
+-- every other message is ignored
 pub other_message : (m : ManagerParts) (decision : Decision) (message : Kind) → IsOther message → decision ≡ nothing
     → Decides m decision (λ config number stored branches. on_manager_message number stored branches (xid_at
     (message_tx message) number) message)

@@ -111,14 +111,17 @@ module _ (config : Config) (number : ℕ) (m new : ManagerParts) (facts : List F
   abbrev before : List Branch
   before = unspent_branches number facts branches
 
+  -- a vote to abort plays while a transaction works
   pub refused_plays : course_in m.courses tx ≡ Course.Working
       → plays_at_manager number (stored_votes number facts) (Fact.VoteAborted tx) ≡ true
   refused_plays working = λ i. name_names tx number x name i && new_by config number m facts before stands tx Course.Working working i
 
+  -- an abort plays while it is open
   pub aborted_plays : (c : Course) → course_in m.courses tx ≡ c
       → plays_at_manager number (stored_votes number facts) (Fact.Aborted tx) ≡ is_open_view (view_among (stored_by c))
   aborted_plays c e = λ i. name_names tx number x name i && is_open_view (view_is config number m facts before stands tx c e i)
 
+  -- a commit plays where it is prepared
   pub committed_plays : (c : Course) → course_in m.courses tx ≡ c
       → plays_at_manager number (stored_votes number facts) (Fact.Committed tx) ≡ is_prepared_view (view_among (stored_by c))
   committed_plays c e = ap is_prepared_view (view_is config number m facts before stands tx c e)
@@ -143,6 +146,7 @@ module _ (config : Config) (number : ℕ) (m new : ManagerParts) (facts : List F
       branch_goes config number m new facts branches fact x stands plays (ap (λ (t : TxParts). xid_at t number) own ∙ name) is_end
       (stands.spent_are x ∙ spent)
 
+  -- after a vote to abort
   pub refused_stands : course_in m.courses tx ≡ Course.Working → (anothers : Bool) → is_spent_in m.spent x ≡ anothers
       → Becomes m new tx x Course.VotedAborted (left_over anothers)
       → StandsFor config number new (facts ++ Fact.VoteAborted tx ∷ []) (unspent_branches number
@@ -154,6 +158,7 @@ module _ (config : Config) (number : ℕ) (m new : ManagerParts) (facts : List F
       (left_over anothers) becomes (refused_then facts tx (stands.stored_are tx ∙ ap stored_by working)) refl
       (kept_or_gone (Fact.VoteAborted tx) refl is_end plays working anothers spent)
 
+  -- after an abort of what works
   pub aborted_stands : course_in m.courses tx ≡ Course.Working → (anothers : Bool) → is_spent_in m.spent x ≡ anothers
       → Becomes m new tx x Course.AbortedUnvoted (left_over anothers)
       → StandsFor config number new (facts ++ Fact.Aborted tx ∷ []) (unspent_branches number (facts ++ Fact.Aborted tx ∷ []) branches)
@@ -164,6 +169,7 @@ module _ (config : Config) (number : ℕ) (m new : ManagerParts) (facts : List F
       (left_over anothers) becomes (aborted_then facts tx (stands.stored_are tx ∙ ap stored_by working)) refl
       (kept_or_gone (Fact.Aborted tx) refl is_end plays working anothers spent)
 
+  -- after an abort of what is prepared
   pub undone_stands : course_in m.courses tx ≡ Course.Prepared → Becomes m new tx x Course.RolledBack None
       → StandsFor config number new (facts ++ Fact.Aborted tx ∷ []) (unspent_branches number (facts ++ Fact.Aborted tx ∷ []) branches)
   undone_stands prepared becomes =
@@ -225,6 +231,7 @@ module _ (config : Config) (number : ℕ) (m new : ManagerParts) (facts : List F
         becomes.rows ∙ (λ i. with_writes (stands.rows_are i) (own_keys i))
         ∙ sym (table_more facts fact (committed_voted config number m facts before stands) (first_rows config number))
 
+    -- after a commit
     pub committed_stands : StandsFor config number new later (unspent_branches number later branches)
     committed_stands =
         let stored = committed_then facts tx (stands.stored_are tx ∙ ap stored_by prepared) in

@@ -69,6 +69,7 @@ written_more h ts numbers i n o base old new lt read found before pushed =
     one None = refl
     one (Some tx) = refl
 
+-- a number that is read at its place
 pub read_at : (numbers : List ℕ) (i d : ℕ) → i < length numbers → get_or numbers i d ≡ get_or numbers i (get_or numbers i d)
 read_at [] i d lt = absurd (omega (arith, lt))
 read_at (n ∷ numbers) zero d lt = refl

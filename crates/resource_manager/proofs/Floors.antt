@@ -244,6 +244,7 @@ module _ (place : Place) where
         by_test true e = refl
         by_test false e = e
 
+  -- whether some branch is below is the machine's test
   pub some_below : (config : Config) (number : ℕ) (m : ManagerParts) (facts : List Fact) (branches : List Branch)
       → StandsFor config number m facts branches → list_any below m.table.branches ≡ not (are_free_below place facts branches)
   some_below config number m facts branches stands =

@@ -19,6 +19,7 @@ use Rattle.resource_manager.proofs.Shortened.{shortened}
 
 -- ---- rows
 
+-- one row
 pub row_written : (r : Result (Unit {0}) Refusal) (key value old new : List ℕ) (row : Row) → key ≡ row.key → value ≡ row.value
     → IsKey row.key × IsValue row.value → OnOk r (new ≡ old ++ frame version_2 (entries.Row key value))
     → OnOk r (AddsEntries old new (row_entry row ∷ []))
@@ -43,6 +44,7 @@ pub record IsWrittenTo (bytes : List ℕ) (so_far : List Entry) : Type 0 where
   pub written : AreWritten bytes done
   pub are : done ≡ so_far
 
+-- the snapshot, and the rows behind it
 pub begun_written : (m : ManagerParts) (none first second : List ℕ) (entry : Entry) (rows : List Row) → none ≡ []
     → entry ≡ entries.Snapshot → first ≡ none ++ frame version_2 entry → rows ≡ m.table.rows → AddsEntries first second (map row_entry rows)
     → IsWrittenTo second ((entries.Snapshot ∷ map row_entry m.table.rows) ++ [])

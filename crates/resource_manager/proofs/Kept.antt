@@ -129,6 +129,7 @@ pub record IsFirstVote (rm : ℕ) (facts : List Fact) (tx : TxParts) (keys : Lis
   pub unspent : is_name_spent rm (stored_votes rm facts) tx ≡ false
   pub free : is_some_held (bound_branches facts) keys ≡ false
 
+-- a vote to commit that plays is the first of its transaction
 pub first_vote : (rm : ℕ) (facts : List Fact) (tx : TxParts) (keys : List Touched)
     → plays_at_manager rm (stored_votes rm facts) (Fact.VotePrepared tx keys) ≡ true → IsFirstVote rm facts tx keys
 first_vote rm facts tx keys e =
@@ -225,6 +226,7 @@ spent_begun rm facts x =
     any_given (xid_eq x) (λ fact. xid_at (fact_tx fact) rm) facts
     ∙ sym (any_begun (λ tx. option_map_or (xid_eq x) (xid_at tx rm) false) facts)
 
+-- where the same names are spent, so is the one of a transaction
 pub name_spent_same : (rm : ℕ) (facts others : List Fact) (tx : TxParts)
     → ((x : XidParts) → is_spent rm facts x ≡ is_spent rm others x)
     → is_name_spent rm (stored_votes rm facts) tx ≡ is_name_spent rm (stored_votes rm others) tx
@@ -236,6 +238,7 @@ name_spent_same rm facts others tx same = by (xid_at tx rm)
 
 -- ---- branches
 
+-- tests that say the same keep the same
 pub same_filter : {X : Type 0} (p q : X → Bool) → ((x : X) → p x ≡ q x) → (xs : List X) → filter p xs ≡ filter q xs
 same_filter p q each [] = refl
 same_filter p q each (x ∷ xs) = λ i. cond (each x i) (x ∷ same_filter p q each xs i) (same_filter p q each xs i)
@@ -535,6 +538,7 @@ module _ (config : Config) (rm : ℕ) (facts : List Fact) (play : all_play confi
               ∙ append-nil (filter_map branch_bound_by before)));
         }
 
+    -- what is kept of all facts is kept
     pub all_kept : IsKept facts
     all_kept =
         through config rm facts play IsKept
@@ -548,9 +552,11 @@ module _ (config : Config) (rm : ℕ) (facts : List Fact) (play : all_play confi
 
     -- ---- the whole
 
+    -- the same transactions have begun, in the same order
     pub kept_order : begun_in (kept facts) ≡ begun_in facts
     kept_order = kept_begun facts [] (append-nil facts) play
 
+    -- the same is stored of each
     pub kept_stored : (tx : TxParts) → stored_in (kept facts) tx ≡ stored_in facts tx
     kept_stored tx =
         stored_parts course (keys_voted facts) (begun_in facts) tx
@@ -566,6 +572,7 @@ module _ (config : Config) (rm : ℕ) (facts : List Fact) (play : all_play confi
         by Course.RolledBack = refl
         by Course.AbortedUnvoted = refl
 
+    -- and the same branches are bound
     pub kept_branches : bound_branches (kept facts) ≡ bound_branches facts
     kept_branches =
         same_filter (λ b. is_prepared_view (view (kept facts) b.tx)) is_left

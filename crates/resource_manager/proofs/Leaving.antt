@@ -43,6 +43,7 @@ module _ (whole : List Fact) where
   abbrev w : Fact → Fact
   w = without_writes whole
 
+  -- a fact without its writes is about the same transaction
   pub same_tx : (f : Fact) → fact_tx (w f) ≡ fact_tx f
   same_tx (stored.VotePrepared tx keys) = refl
   same_tx f = refl
@@ -66,6 +67,7 @@ module _ (whole : List Fact) where
   any_left q same [] = refl
   any_left q same (f ∷ fs) = λ k. same f k || any_left q same fs k
 
+  -- the same is stored of each
   pub stored_left : (facts : List Fact) (tx : TxParts) → stored_in (map w facts) tx ≡ stored_in facts tx
   stored_left facts tx = λ k. record {
     voted_prepared = any_left (is_vote_of tx votes.Prepared) (same_vote tx votes.Prepared) facts k;
@@ -84,6 +86,7 @@ module _ (whole : List Fact) where
     names_left [] = refl
     names_left (f ∷ fs) = λ k. cons_option (xid_at (same_tx f k) rm) (names_left fs k)
 
+    -- the same names are spent
     pub spent_left : (facts : List Fact) (x : XidParts) → is_spent rm (map w facts) x ≡ is_spent rm facts x
     spent_left facts x = ap (list_any (xid_eq x)) (names_left facts)
 
@@ -132,6 +135,7 @@ module _ (whole : List Fact) where
         by_fact (stored.PromiseAll tx b) h rest = rest
         by_fact (stored.Ballot tx b) h rest = rest
 
+    -- and the same branches are bound
     pub bound_left : bound_branches (map w facts) ≡ bound_branches facts
     bound_left =
         (λ k. filter (λ b. is_prepared_view (view_among (stored_left facts b.tx k))) (filter_map branch_bound_by (map w facts)))

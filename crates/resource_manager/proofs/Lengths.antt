@@ -88,6 +88,7 @@ abbrev pub first_of : Option Bound → Option Bound → Option Bound
 first_of None second = second
 first_of (Some bound) second = Some bound
 
+-- the keys that a bound branch has, if there is one
 abbrev pub keys_of : Option Bound → List Touched
 keys_of o = option_map_or (λ (bound : Bound). bound.keys) o []
 
@@ -108,6 +109,7 @@ module _ (tx : TxParts) where
       by true rest = refl
       by false rest = rest
 
+  -- what is found first among two lists of facts
   pub found_more : (facts more : List Fact) → found (facts ++ more) ≡ first_of (found facts) (found more)
   found_more facts more =
       ap (find (λ bound. tx_eq tx bound.tx)) (filter_map-append branch_bound_by facts more)

@@ -42,6 +42,7 @@ pub record FailsTests (tx : TxParts) (fact : Fact) : Type 0 where
   pub committed : is_commit_of tx fact ≡ false
   pub aborted : is_abort_of tx fact ≡ false
 
+-- a fact of another transaction fails each test of this one
 pub fails : (tx : TxParts) (fact : Fact) → tx_eq tx (fact_tx fact) ≡ false → FailsTests tx fact
 fails tx (Fact.VotePrepared other keys) e = record { voted_prepared = e; voted_aborted = refl; committed = refl; aborted = refl }
 fails tx (Fact.VoteAborted other) e = record { voted_prepared = refl; voted_aborted = e; committed = refl; aborted = refl }
@@ -84,23 +85,28 @@ own facts fact tx s p a c d e f g h k = λ i. record {
 }
 
 module _ (facts : List Fact) (tx : TxParts) where
+  -- after a vote to commit
   pub voted_then : (keys : List Touched) → stored_in facts tx ≡ stored_by Course.Working
       → stored_in (facts ++ Fact.VotePrepared tx keys ∷ []) tx ≡ stored_by Course.Prepared
   voted_then keys e = own facts (Fact.VotePrepared tx keys) tx (stored_by Course.Working) true false false false e
       (tx_self tx) refl refl refl
 
+  -- after a vote to abort
   pub refused_then : stored_in facts tx ≡ stored_by Course.Working
       → stored_in (facts ++ Fact.VoteAborted tx ∷ []) tx ≡ stored_by Course.VotedAborted
   refused_then e = own facts (Fact.VoteAborted tx) tx (stored_by Course.Working) false true false false e refl (tx_self tx) refl refl
 
+  -- after a commit
   pub committed_then : stored_in facts tx ≡ stored_by Course.Prepared
       → stored_in (facts ++ Fact.Committed tx ∷ []) tx ≡ stored_by Course.Committed
   committed_then e = own facts (Fact.Committed tx) tx (stored_by Course.Prepared) false false true false e refl refl (tx_self tx) refl
 
+  -- after an abort of what works
   pub aborted_then : stored_in facts tx ≡ stored_by Course.Working
       → stored_in (facts ++ Fact.Aborted tx ∷ []) tx ≡ stored_by Course.AbortedUnvoted
   aborted_then e = own facts (Fact.Aborted tx) tx (stored_by Course.Working) false false false true e refl refl refl (tx_self tx)
 
+  -- after an abort of what is prepared
   pub undone_then : stored_in facts tx ≡ stored_by Course.Prepared
       → stored_in (facts ++ Fact.Aborted tx ∷ []) tx ≡ stored_by Course.RolledBack
   undone_then e = own facts (Fact.Aborted tx) tx (stored_by Course.Prepared) false false false true e refl refl refl (tx_self tx)
@@ -126,6 +132,7 @@ or_swap false true = refl
 or_swap false false = refl
 
 module _ (rm : ℕ) (facts : List Fact) (fact : Fact) (x : XidParts) (name : xid_at (fact_tx fact) rm ≡ Some x) where
+  -- which names are spent with one fact more
   pub spent_more : (y : XidParts) → is_spent rm (facts ++ fact ∷ []) y ≡ (xid_eq y x || is_spent rm facts y)
   spent_more y =
       let at = λ (f : Fact). xid_at (fact_tx f) rm in

@@ -26,6 +26,7 @@ named_own (c ∷ bs) b once (inr there) =
     (d : Branch). d.xid) bs b there))))
     (λ other. named_own bs b once.1 there)
 
+-- a branch of the list is found by its name
 pub named_at : (bs : List Branch) (b : Branch) (x : XidParts) → AreNamedOnce bs → IsIn bs b → b.xid ≡ x → branch_named bs x ≡ Some b
 named_at bs b x once there e = ap (branch_named bs) (sym e) ∙ named_own bs b once there
 
@@ -34,6 +35,7 @@ pub named_in : (bs : List Branch) (x : XidParts) (b : Branch) → branch_named b
 named_in bs x b e =
     let found = found_among (λ (c : Branch). xid_eq c.xid x) bs b e in (found.0, (xid_decides b.xid x).0 found.1)
 
+-- a name that no branch has finds none
 pub named_none : (bs : List Branch) (x : XidParts) → ((b : Branch) → IsIn bs b → b.xid ≢ x) → branch_named bs x ≡ None
 named_none [] x none = refl
 named_none (b ∷ bs) x none =
@@ -123,6 +125,7 @@ idle_one BranchState.RollbackOnly x ks keys e =
 idle_one BranchState.Prepared x ks keys e =
     none_idle BranchState.Prepared x ks keys (not_idle x (record { xid = x; state = BranchState.Prepared; keys = ks })) e
 
+-- the keys of an idle branch are those of the branch that is found
 pub idle_named : (bs : List Branch) (x : XidParts) (keys : List Touched) → AreNamedOnce bs → idle_keys bs x ≡ Some keys
     → branch_named bs x ≡ Some (idle_branch x keys)
 idle_named bs x keys once e = by (branch_named bs x) refl

@@ -30,6 +30,7 @@ module _ (ts us : List TxParts) (tx : TxParts) (absent : place_in ts tx ≡ leng
   last : us ≡ ts ++ tx ∷ []
   last = added ∙ ap (λ t. cond t ts (ts ++ tx ∷ [])) (absent_from_place (tx_eq tx) ts absent)
 
+  -- a transaction that was seen has its number
   pub saw_number : (place_in ts tx ≡ place_in us tx) × (place_in us tx < length us)
   saw_number =
       subst (λ xs. (place_in ts tx ≡ place_in xs tx) × (place_in xs tx < length xs)) (sym last)
@@ -45,6 +46,7 @@ module _ (ts us : List TxParts) (tx : TxParts) (absent : place_in ts tx ≡ leng
       ap (λ xs. slice_get xs k) last ∙ get_front ts tx k (ltb-true k (length ts) parts.0) in
       λ i. cons_option (same i) (saw_begun numbers parts.1 i)
 
+  -- numbers below the old count are below the new one
   pub saw_below : (numbers : List ℕ) → are_below (length ts) numbers ≡ true → are_below (length us) numbers ≡ true
   saw_below [] below = refl
   saw_below (k ∷ numbers) below =
@@ -55,6 +57,7 @@ module _ (ts us : List TxParts) (tx : TxParts) (absent : place_in ts tx ≡ leng
       (saw_below numbers parts.1)
 
   module _ (cs ds : List Course) (pushed : ds ≡ cs ++ Course.Working ∷ []) (whole : length cs ≡ length ts) where
+    -- there are as many courses as transactions
     pub saw_whole : length ds ≡ length us
     saw_whole =
         ap length pushed ∙ length-append cs (Course.Working ∷ []) ∙ ap (λ n. n + 1) whole ∙ sym (length-append ts (tx ∷ []))
@@ -64,6 +67,7 @@ module _ (ts us : List TxParts) (tx : TxParts) (absent : place_in ts tx ≡ leng
     saw_same other =
         (λ i. get_or (pushed i) (place_in (last i) other) Course.Working) ∙ row_added new_course ts cs whole tx absent other
 
+-- the course of each after one has come further
 pub set_course : (ts : List TxParts) (cs : List Course) (n : ℕ) (tx : TxParts) (course : Course) → n ≡ place_in ts tx
     → place_in ts tx < length ts → length cs ≡ length ts → (other : TxParts)
     → get_or (set cs n course) (place_in ts other) Course.Working
@@ -78,6 +82,7 @@ place_gets ts tx seen =
     slice_get-get_or ts (place_in ts tx) no_transaction seen
     ∙ ap Some (sym ((tx_decides tx (get_or ts (place_in ts tx) no_transaction)).0 (passes_at_first (tx_eq tx) ts no_transaction seen)))
 
+-- and the transactions that have begun, with one more
 pub begun_push : (ts : List TxParts) (numbers : List ℕ) (n : ℕ) (tx : TxParts) → n ≡ place_in ts tx → place_in ts tx < length ts
     → filter_map (slice_get ts) (numbers ++ n ∷ []) ≡ filter_map (slice_get ts) numbers ++ tx ∷ []
 begun_push ts numbers n tx number seen =

@@ -43,6 +43,7 @@ part_is tx Course.AbortedUnvoted keys = refl
 
 -- ---- what is stored in two lists
 
+-- what one of two stores
 abbrev pub either : Stored → Stored → Stored
 either s t = record {
   voted_prepared = s.voted_prepared || t.voted_prepared;
@@ -51,6 +52,7 @@ either s t = record {
   aborted = s.aborted || t.aborted;
 }
 
+-- two lists of facts store what one of them does
 pub stored_append : (facts more : List Fact) (tx : TxParts) → stored_in (facts ++ more) tx ≡ either (stored_in facts tx) (stored_in more tx)
 stored_append facts more tx = λ i. record {
   voted_prepared = list_any-append (is_vote_of tx Vote.Prepared) facts more i;
@@ -143,6 +145,7 @@ once_more false Course.AbortedUnvoted = refl
 -- ---- the facts of several transactions
 
 module _ (course : TxParts → Course) (keys : TxParts → List Touched) where
+  -- the facts that entries of transactions stand for
   abbrev pub parts_of : List TxParts → List Fact
   parts_of txs = flat_map (λ tx. part tx (course tx) (keys tx)) txs
 
@@ -160,6 +163,7 @@ module _ (course : TxParts → Course) (keys : TxParts → List Touched) where
       by None = refl
       by (Some entry) = refl
 
+  -- with one transaction more
   pub parts_push : (txs : List TxParts) (tx : TxParts) → parts_of (txs ++ tx ∷ []) ≡ parts_of txs ++ part tx (course tx) (keys tx)
   parts_push [] tx = append-nil (part tx (course tx) (keys tx))
   parts_push (t ∷ txs) tx =
@@ -198,6 +202,7 @@ module _ (course : TxParts → Course) (keys : TxParts → List Touched) where
   seen_part seen tx Course.RolledBack ks e = seen_twice seen tx
   seen_part seen tx Course.AbortedUnvoted ks e = refl
 
+  -- the transactions of these facts
   pub begun_parts : (seen txs : List TxParts) → ((tx : TxParts) → IsIn txs tx → is_new_course (course tx) ≡ false)
       → fold seen_after seen (parts_of txs) ≡ fold seen_with seen txs
   begun_parts seen [] each = refl
@@ -242,6 +247,7 @@ module _ (course : TxParts → Course) (keys : TxParts → List Touched) where
   part_vote t tx ks Course.AbortedUnvoted e (inl same) = absurd (cc (same))
   part_vote t tx ks Course.AbortedUnvoted e (inr none) = absurd none
 
+  -- a vote to commit among them is one of a transaction that is prepared
   pub parts_vote : (txs : List TxParts) (tx : TxParts) (ks : List Touched) → IsIn (parts_of txs) (Fact.VotePrepared tx ks)
       → IsPartVote txs tx ks
   parts_vote txs tx ks h =

@@ -50,19 +50,23 @@ module _ (m : ManagerParts) (tx : TxParts) (none : xid_at tx m.number ≡ None) 
         let also = ap (xid_at tx) (sym stands.number_is) ∙ none in
         absurd (cc (name.1, also)))
 
+  -- a fact of a transaction without a branch here doesn't play: a vote to commit
   pub unnamed_vote : (keys : List Touched) → Plays m m (Fact.VotePrepared tx keys) (Err Refusal.Damaged)
   unnamed_vote keys = refuses m (Fact.VotePrepared tx keys)
       (λ config number facts branches stands. λ i. not_named config number facts branches stands i && is_new (stored_votes number facts) tx
       && not (is_name_spent number (stored_votes number facts) tx) && not (is_some_held (bound_branches facts) keys))
 
+  -- a vote to abort
   pub unnamed_refusal : Plays m m (Fact.VoteAborted tx) (Err Refusal.Damaged)
   unnamed_refusal = refuses m (Fact.VoteAborted tx)
       (λ config number facts branches stands. λ i. not_named config number facts branches stands i && is_new (stored_votes number facts) tx)
 
+  -- an abort
   pub unnamed_abort : Plays m m (Fact.Aborted tx) (Err Refusal.Damaged)
   unnamed_abort = refuses m (Fact.Aborted tx)
       (λ config number facts branches stands. λ i. not_named config number facts branches stands i && is_open_view (view facts tx))
 
+  -- a commit
   pub unnamed_commit : Plays m m (Fact.Committed tx) (Err Refusal.Damaged)
   unnamed_commit = refuses m (Fact.Committed tx)
       (λ config number facts branches stands. false_from_ne_true (is_prepared_view (view facts tx))
@@ -76,6 +80,7 @@ module _ (m : ManagerParts) (tx : TxParts) (c : Course) (course : course_in m.co
   over true b e = e
   over false b e = refl
 
+  -- a vote to commit of what has begun doesn't play
   pub late_vote : (keys : List Touched) → (is_none (vote_among (stored_by c)) && not (is_ended_among (stored_by c))) ≡ false
       → Plays m m (Fact.VotePrepared tx keys) (Err Refusal.Damaged)
   late_vote keys old = refuses m (Fact.VotePrepared tx keys) (λ config number facts branches stands.
@@ -83,23 +88,27 @@ module _ (m : ManagerParts) (tx : TxParts) (c : Course) (course : course_in m.co
       (over (is_participant tx number) (is_new (stored_votes number facts) tx)
       (new_by config number m facts (unspent_branches number facts branches) stands tx c course ∙ old)))
 
+  -- nor does a vote to abort
   pub late_refusal : (is_none (vote_among (stored_by c)) && not (is_ended_among (stored_by c))) ≡ false
       → Plays m m (Fact.VoteAborted tx) (Err Refusal.Damaged)
   late_refusal old = refuses m (Fact.VoteAborted tx) (λ config number facts branches stands.
       over (is_participant tx number) (is_new (stored_votes number facts) tx)
       (new_by config number m facts (unspent_branches number facts branches) stands tx c course ∙ old))
 
+  -- an abort of what is over doesn't play
   pub late_abort : is_open_view (view_among (stored_by c)) ≡ false → Plays m m (Fact.Aborted tx) (Err Refusal.Damaged)
   late_abort ended = refuses m (Fact.Aborted tx) (λ config number facts branches stands.
       over (is_participant tx number) (is_open_view (view facts tx))
       (ap is_open_view (view_is config number m facts (unspent_branches number facts branches) stands tx c course) ∙ ended))
 
+  -- nor does a commit of what isn't prepared
   pub early_commit : is_prepared_view (view_among (stored_by c)) ≡ false → Plays m m (Fact.Committed tx) (Err Refusal.Damaged)
   early_commit ended = refuses m (Fact.Committed tx) (λ config number facts branches stands.
       ap is_prepared_view (view_is config number m facts (unspent_branches number facts branches) stands tx c course) ∙ ended)
 
 -- ---- a name that is spent
 
+-- nor a vote to commit by a name that is spent
 pub spent_vote : (m : ManagerParts) (tx : TxParts) (x : XidParts) (keys : List Touched) → xid_at tx m.number ≡ Some x
     → is_spent_in m.spent x ≡ true → Plays m m (Fact.VotePrepared tx keys) (Err Refusal.Damaged)
 spent_vote m tx x keys name spent = refuses m (Fact.VotePrepared tx keys) (λ config number facts branches stands.
@@ -125,6 +134,7 @@ module _ (m new : ManagerParts) (tx : TxParts) (x : XidParts) (name : xid_at tx 
       → StandsFor config number m facts branches → StandsFor config number new facts branches
   same_after same = same_stands m new same
 
+  -- a vote to commit
   pub plays_vote : (keys : List Touched) → course_in m.courses tx ≡ Course.Working → is_spent_in m.spent x ≡ false
       → (result : Result (Unit {0}) Refusal) → PlaysVote m new tx x keys result → Plays m new (Fact.VotePrepared tx keys) result
   plays_vote keys working unspent (Ok done) is = record {
@@ -166,6 +176,7 @@ module _ (m new : ManagerParts) (tx : TxParts) (x : XidParts) (name : xid_at tx 
   plays_vote keys working unspent (Err other) is = absurd is.0
 
   module _ (anothers : Bool) where
+    -- a vote to abort
     pub plays_refusal : course_in m.courses tx ≡ Course.Working → is_spent_in m.spent x ≡ anothers
         → (result : Result (Unit {0}) Refusal) → PlaysEnd m new tx x anothers Course.VotedAborted result
         → Plays m new (Fact.VoteAborted tx) result
@@ -188,6 +199,7 @@ module _ (m new : ManagerParts) (tx : TxParts) (x : XidParts) (name : xid_at tx 
     }
     plays_refusal working spent (Err other) is = absurd is
 
+    -- an abort of what works
     pub plays_abort : course_in m.courses tx ≡ Course.Working → is_spent_in m.spent x ≡ anothers
         → (result : Result (Unit {0}) Refusal) → PlaysEnd m new tx x anothers Course.AbortedUnvoted result
         → Plays m new (Fact.Aborted tx) result
@@ -212,6 +224,7 @@ module _ (m new : ManagerParts) (tx : TxParts) (x : XidParts) (name : xid_at tx 
     }
     plays_abort working spent (Err other) is = absurd is
 
+  -- an abort of what is prepared
   pub plays_undoing : course_in m.courses tx ≡ Course.Prepared → (result : Result (Unit {0}) Refusal)
       → PlaysEnd m new tx x false Course.RolledBack result → Plays m new (Fact.Aborted tx) result
   plays_undoing prepared (Ok done) is = record {
@@ -251,6 +264,7 @@ pub from_view : (m old new : ManagerParts) (fact : Fact) (result : Result (Unit 
     → Plays old new fact result
 from_view m old new fact result e plays = subst (λ (o : ManagerParts). Plays o new fact result) e plays
 
+-- a new course works
 pub working_course : (c : Course) → is_new_course c ≡ true → c ≡ Course.Working
 working_course Course.Working e = refl
 working_course Course.Prepared e = absurd (cc (e))
@@ -259,6 +273,7 @@ working_course Course.Committed e = absurd (cc (e))
 working_course Course.RolledBack e = absurd (cc (e))
 working_course Course.AbortedUnvoted e = absurd (cc (e))
 
+-- a course that shows as prepared is prepared
 pub prepared_course : (c : Course) → is_prepared_view (view_of c) ≡ true → c ≡ Course.Prepared
 prepared_course Course.Prepared e = refl
 prepared_course Course.Working e = absurd (cc (e))
@@ -267,6 +282,7 @@ prepared_course Course.Committed e = absurd (cc (e))
 prepared_course Course.RolledBack e = absurd (cc (e))
 prepared_course Course.AbortedUnvoted e = absurd (cc (e))
 
+-- one that is open and isn't prepared works
 pub open_working : (c : Course) → is_open_view (view_of c) ≡ true → is_prepared_view (view_of c) ≡ false → c ≡ Course.Working
 open_working Course.Working e f = refl
 open_working Course.Prepared e f = absurd (cc (f))
@@ -309,6 +325,7 @@ stranger_fails number facts (Fact.PromiseAll tx b) is = refl
 stranger_fails number facts (Fact.Accept tx i b v) is = refl
 stranger_fails number facts (Fact.Ballot tx b) is = refl
 
+-- a fact of another kind of node doesn't play
 pub stranger : (m : ManagerParts) (fact : Fact) → IsStranger fact → Plays m m fact (Err Refusal.Damaged)
 stranger m fact is = refuses m fact (λ config number facts branches stands. stranger_fails number facts fact is)
 
@@ -347,6 +364,7 @@ module _ (m old : ManagerParts) (tx : TxParts) (x : XidParts) (view : m ≡ old)
   own_course : course_in m.courses tx ≡ Course.Prepared
   own_course = ap (λ (o : ManagerParts). course_in o.courses tx) view ∙ prepared
 
+  -- a commit
   pub commits_by : (now : TableState) (courses : CoursesParts) → Commits m.table now x
       → Sets m.courses courses tx Course.Committed → courses.begun ≡ begun_with m.courses tx
       → Plays old (record { number = m.number; managers = m.managers; courses = courses; spent = m.spent; table = now })

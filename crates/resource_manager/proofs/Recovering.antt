@@ -252,6 +252,7 @@ module _ (config : Config) (number : ℕ) (m : ManagerParts) (facts : List Fact)
             IsIn-contains names z (Contains-permutation listed names z recovered.same (Contains-among listed z (bound_prepared z there)))
       ])
 
+-- the names that the table recovers are the machine's
 pub recovers_ok : {E : Type 0} (r : Result Answer E) (m old : ManagerParts) → m ≡ old → AreTableBranches m.table.branches
     → IfOk r (λ answer. (names : List XidParts) × (answer ≡ Xids names) × AreRecovered m.table.branches names)
     → IfOk r (λ answer. (config : Config) (number : ℕ) (facts : List Fact) (branches : List Branch)

@@ -93,6 +93,7 @@ module _ (number : ℕ) (kept facts : List Fact) (same : LeadsSame number kept f
       prepared_then : (b : Bound) → is_prepared_then kept more b ≡ is_prepared_then facts more b
       prepared_then b = ap (λ s. is_prepared_view (view_among s)) (stored_then b.tx)
 
+  -- the same names are spent
   pub spent_same : (x : XidParts) → is_spent number kept x ≡ is_spent number facts x
   spent_same x =
       spent_begun number kept x
@@ -124,6 +125,7 @@ module _ (number : ℕ) (kept facts : List Fact) (same : LeadsSame number kept f
 
 -- ---- playing on
 
+-- facts behind others play after them
 pub all_play_append : (config : Config) (rm : ℕ) (before facts more : List Fact) → all_play config (R rm) before (facts ++ more) ≡ true
     → all_play config (R rm) (before ++ facts) more ≡ true
 all_play_append config rm before [] more play =
@@ -182,6 +184,7 @@ module _ (over config : Config) (number : ℕ) where
       writes (Fact.Accept tx i b v) e rows = refl
       writes (Fact.Ballot tx b) e rows = refl
 
+  -- facts that lead to the same do so with more behind them
   pub same_on : (kept facts more : List Fact) → PlayedSame over config number kept facts → all_play over (R number) kept more ≡ true
       → PlayedSame over config number (kept ++ more) (facts ++ more)
   same_on kept facts [] same play =

@@ -128,6 +128,7 @@ module _ (config : Config) (number : ℕ) (m : ManagerParts) (facts : List Fact)
       (λ tx. entry_of tx (stored_in facts tx) (keys_voted facts tx))
       (λ tx. ap (λ s. entry_of tx s (keys_voted facts tx)) (sym (stands.stored_are tx))) (begun_in facts)
 
+  -- the entries of a resource manager are a shorter record of its facts
   pub shortened : IsShortened config number facts (entries_at m)
   shortened =
       let again = put_again rows (table_ascends (first_rows config number) facts) in

@@ -6,6 +6,7 @@ use Rattle.std.specs.List.{list_any}
 use Rattle.xid.specs.Names.{XidParts, xid_eq}
 use Rattle.branch_table.proofs.Found.{xid_turned}
 
+-- what holds where a call was done, where it was
 pub on_ok : {T E : Type 0} (r : Result T E) (P : Type 0) → IsOk r → OnOk r P → P
 on_ok (Ok x) P is h = h
 on_ok (Err e) P is h = absurd (cc (is))
@@ -14,6 +15,7 @@ or_cond : (a b c : Bool) → a ≡ c → cond a true b ≡ (c || b)
 or_cond true b c e = λ i. e i || b
 or_cond false b c e = λ i. e i || b
 
+-- a name is spent once it was put among them, or it was before
 pub spends : (names news : List XidParts) (x : XidParts)
     → ((y : XidParts) → list_any (xid_eq y) news ≡ cond (xid_eq x y) true (list_any (xid_eq y) names))
     → (y : XidParts) → list_any (xid_eq y) news ≡ (xid_eq y x || list_any (xid_eq y) names)

@@ -95,6 +95,7 @@ bound_in rm facts branches bound x h e =
     (filter_map_gives _ (bound_branches facts) bound (named_so bound.keys x) h
     (ap (λ (o : Option XidParts). option_map (named_so bound.keys) o) e))
 
+-- a branch of another name stays
 pub other_in : (rm : ℕ) (facts : List Fact) (branches : List Branch) (b : Branch) → IsIn branches b → IsIn (branches_in rm facts branches) b
 other_in rm facts branches b h = IsIn-after (filter_map _ (bound_branches facts)) branches b h
 
@@ -183,6 +184,7 @@ module _ (config : Config) (number : ℕ) (m new : ManagerParts) (facts : List F
   pub then_played : all_play config (R number) [] then_facts ≡ true
   then_played = all_play_then config (R number) [] facts fact stands.played plays
 
+  -- no name has two branches afterwards
   pub then_once : AreNamedOnce (branches_in number then_facts left)
   then_once = names_held_once config number then_facts left then_played apart
 
@@ -194,6 +196,7 @@ module _ (config : Config) (number : ℕ) (m new : ManagerParts) (facts : List F
       (not_from_false (xid_eq b.xid x) (false_from_ne_true (xid_eq b.xid x) (λ f. other (sym e ∙ (xid_decides b.xid x).0 f)))))
       (λ b e h. without_some was x b h)
 
+  -- what changed at one transaction as its fact says stands for the facts with it
   pub stands_then : (course : Course) (now : Option Branch) → new.number ≡ m.number → new.managers ≡ m.managers
       → Sets m.courses new.courses (fact_tx fact) course → new.courses.begun ≡ begun_with m.courses (fact_tx fact)
       → stored_in then_facts (fact_tx fact) ≡ stored_by course

@@ -46,11 +46,13 @@ use Rattle.resource_manager.proofs.Standing.{then_once}
 
 module _ (config : Config) (number : ℕ) (m : ManagerParts) (facts : List Fact) (branches : List Branch)
     (stands : StandsFor config number m facts branches) (tx : TxParts) where
+  -- a transaction is new where its course says so
   pub new_by : (c : Course) → course_in m.courses tx ≡ c → is_new (stored_votes number facts) tx
       ≡ (is_none (vote_among (stored_by c)) && not (is_ended_among (stored_by c)))
   new_by c e =
       ap (λ (s : Stored). is_none (vote_among s) && not (is_ended_among s)) (stands.stored_are tx ∙ ap stored_by e)
 
+  -- and its view is the one of its course
   pub view_is : (c : Course) → course_in m.courses tx ≡ c → view facts tx ≡ view_among (stored_by c)
   view_is c e = ap view_among (stands.stored_are tx ∙ ap stored_by e)
 
@@ -245,6 +247,7 @@ module _ (config : Config) (number : ℕ) (m : ManagerParts) (facts : List Fact)
   can_play playable (inl idle) = idle_unheld idle
   can_play playable (inr free) = false_from_ne_true (is_some_held (bound_branches facts) keys) (λ h. free.1 (held_hinders h))
 
+  -- a vote to commit that the table can't prepare doesn't play
   pub cannot_play : IsPlayable number branches (Fact.VotePrepared tx keys) → (CanBePrepared m.table.branches x keys → ⊥)
       → is_some_held (bound_branches facts) keys ≡ true
   cannot_play playable cannot = by (is_some_held (bound_branches facts) keys) refl (situation playable)
@@ -256,6 +259,7 @@ module _ (config : Config) (number : ℕ) (m : ManagerParts) (facts : List Fact)
           absurd (cannot (inr (is.1, λ h. both_ways (is_some_held (bound_branches facts) keys) e (hinders_held is.0 h))))
       by false e (inr idle) = absurd (cannot (inl idle))
 
+  -- one whose branch is there does
   pub there_play : IsPlayable number branches (Fact.VotePrepared tx keys) → IsThere m x → is_some_held (bound_branches facts) keys ≡ false
   there_play playable there = elim (situation playable) [
     | inl is ↦ absurd (both_ways (is_some (branch_named m.table.branches x)) (ap is_some is.1) there)
@@ -290,6 +294,7 @@ module _ (config : Config) (number : ℕ) (m : ManagerParts) (facts : List Fact)
         (then_once config number m new facts branches fact x stands plays name apart)
         (bound_in number (facts ++ fact ∷ []) (branches_without was x) bound x among name) refl
 
+    -- after a vote to commit
     pub vote_stands : StandsFor config number new (facts ++ fact ∷ []) (unspent_branches number (facts ++ fact ∷ []) branches)
     vote_stands =
         stands_then config number m new facts branches fact x stands plays name apart Course.Prepared (Some (prepared_branch x keys))

@@ -80,6 +80,7 @@ pub record AreFew (sizes : Sizes) : Type 0 where
 at_most : (m n : ℕ) → nat_le m n ≡ true → m ≤ n
 at_most m n h = grind (arith, nat_tests)
 
+-- sizes within the limits are few
 pub few_of : (sizes : Sizes) → are_sizes sizes.acceptors sizes.leaders sizes.managers ≡ true → AreFew sizes
 few_of sizes h =
     let odd = sizes.acceptors == 1 || sizes.acceptors == 3 || sizes.acceptors == 5 || sizes.acceptors == 7 in
@@ -203,6 +204,7 @@ module _ (sizes : Sizes) (few : AreFew sizes) (at : ℕ) (ports : List UdpPort) 
     };
   }
 
+  -- one port more is bound
   pub bound_next : (new : List UdpPort) (known : Addresses) → new ≡ longer → known ≡ more → AreBound sizes (at + 1) new known
   bound_next new known pushed put =
       subst (λ (ps : List UdpPort). AreBound sizes (at + 1) ps known) (sym pushed)
@@ -230,6 +232,7 @@ module _ (addresses : Addresses) (at : ℕ) (start now : List UdpPort) (was : Ud
   behind : drop (at + 1) now ≡ drop (at + 1) start
   behind = ap (drop 1) (sym (drop_more now at was lt) ∙ so.rest ∙ drop_more start at was within)
 
+  -- one port more knows where the others are
   pub told_next : (new : UdpPort) → new ≡ finding addresses was → KnowAddresses addresses (at + 1) start (set now at new)
   told_next new is = record {
     told =
@@ -263,6 +266,7 @@ module _ (sizes : Sizes) (addresses : Addresses) (bound ports : List UdpPort)
       let lt : at < node_count sizes = place_within (config_by sizes []) who at placed in
       standing.found who at d lt placed ∙ ap (λ (p : UdpPort). Some p.number) (sym (read_at at d lt))
 
+  -- all ports know it
   pub all_find : (noise : UdpPort) → noise.addresses ≡ addresses → ArePorts sizes ports noise
   all_find noise is = record {
     number = long;

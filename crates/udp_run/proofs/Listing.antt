@@ -50,6 +50,7 @@ module _ {P : Type 0} (Received : Receiving P) (Sent : Sending P) where
     entries_are = h.entries_are;
   }
 
+  -- one node more was served
   pub serves_next : (start : SiteParts P) (sizes : Sizes) (nodes : List MemberParts) (ports : List P) (noise : P) (k : ℕ)
       (was node : MemberParts) (before port : P) (x y z : List Entry) → k < length nodes → was ≡ get_or nodes k was
       → before ≡ get_or ports k before → JoinsServed Received Sent was node before port y z
@@ -94,6 +95,7 @@ module _ {P : Type 0} (Received : Receiving P) (Sent : Sending P) where
         entries_are = ap (λ (es : List Entry). es ++ more) h.entries_are ∙ append_assoc h.some h.more more;
       }
 
+  -- one command more was carried out
   pub carries_next : (commands : List Command) (last : Command) (a b c : SiteParts P) (x y : List Entry)
       → CarriesAll Received Sent commands a b x → Joins (CarriesOut Received Sent last) b c x y
       → CarriesAll Received Sent (commands ++ last ∷ []) a c y

@@ -76,14 +76,17 @@ none_by : (bytes : List ℕ) (read : Option Kind) → message_at bytes ≡ read 
 none_by bytes None e none = e
 none_by bytes (Some k) e none = absurd (none k (message_spelled k bytes e))
 
+-- bytes that spell a message do so
 pub is_spelled : (bytes : List ℕ) (k : Kind) → Spells k bytes → true ≡ spells_message bytes
 is_spelled bytes k spells = sym (ap is_some (message_found k bytes spells))
 
+-- others don't
 pub is_unspelled : (bytes : List ℕ) → ((k : Kind) → IsMessage k → bytes ≢ spelling k) → false ≡ spells_message bytes
 is_unspelled bytes none = sym (ap is_some (none_by bytes (message_at bytes) refl (λ k s. none k s.message s.spelled)))
 
 module _ {P : Type 0} (Sent : Sending P) (sizes : Sizes) (who : NodeId) (at : ℕ) (is : Some at ≡ place_in sizes who) (bytes : List ℕ)
     (before after : P) (served : Served) where
+  -- bytes that are forged are refused
   pub noise_forged : is_forged bytes ≡ true → after ≡ before → served ≡ answer_served (Refused Forged)
       → SendsNoise Sent (place_in sizes who) who bytes before after served
   noise_forged spelled same answered =
@@ -91,6 +94,7 @@ module _ {P : Type 0} (Sent : Sending P) (sizes : Sizes) (who : NodeId) (at : �
       (subst (λ (b : Bool). MatchBool b ((after ≡ before) × (served ≡ answer_served (Refused Forged)))
       (IsSentBy Sent who bytes before after served)) (sym spelled) (same, answered))
 
+  -- others are sent
   pub noise_sent : is_forged bytes ≡ false → (result : Result (Unit {0}) Refusal) → Sent before after who bytes result
       → served ≡ answer_served (restart_answer result) → SendsNoise Sent (place_in sizes who) who bytes before after served
   noise_sent spelled result sent answered =

@@ -84,6 +84,7 @@ pub record HaveShownTables (at : ℕ) (start now : List MemberParts) (tables : L
   pub rest : drop at now ≡ drop at start
   pub long : length now ≡ length start
 
+-- no table was shown
 pub none_shown : (nodes : List MemberParts) → HaveShownTables 0 nodes nodes []
 none_shown nodes = record { shown = tt; rest = refl; long = refl }
 

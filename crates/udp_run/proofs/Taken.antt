@@ -31,6 +31,7 @@ placed_among : (number bound other at : ℕ) (t : Bool) → nat_lt number bound 
 placed_among number bound other at true e h = e
 placed_among number bound other at false e h = absurd (cc (h))
 
+-- a node with a place is one of the cluster
 pub place_among : (config : Config) (sizes : Sizes) → AreSizes config sizes → (who : NodeId) (at : ℕ) → place_in sizes who ≡ Some at
     → is_among config who ≡ true
 place_among config sizes are (A a) at h =
@@ -44,6 +45,7 @@ place_among config sizes are (R rm) at h =
 
 -- ---- one after another
 
+-- one node more was opened
 pub one_opened : (config : Config) (sizes : Sizes) (made : ℕ) (old new : List MemberParts) (node : MemberParts) (who : NodeId)
     → AreOpened config sizes made old → new ≡ old ++ node ∷ [] → place_in sizes who ≡ Some made → IsOpenedOver config who node
     → AreOpened config sizes (made + 1) new
@@ -64,6 +66,7 @@ one_opened config sizes made old new node who so pushed place_is over = record {
 -- ---- refused
 
 module _ (config : Config) (who : NodeId) (held : Held) (opened : held ≡ just_opened held.bytes) where
+  -- a node that was taken up was opened over its record
   pub taken_over : (node : MemberParts) → IsTakenUp config who held node → IsOpenedOver config who node
   taken_over node is = record { bytes = held.bytes; taken = subst (λ (h : Held). IsTakenUp config who h node) opened is }
 
@@ -80,6 +83,7 @@ module _ (config : Config) (who : NodeId) (held : Held) (opened : held ≡ just_
   why_unopened among left NoMemory why = inl refl
   why_unopened among left other why = absurd why
 
+  -- one that was not was refused for it, or for want of memory
   pub not_taken_over : is_among config who ≡ true → (e : Refusal) → IsRefusedOver config who held e
       → (e ≡ NoMemory) ⊎ RefusesNode config who e
   not_taken_over among e why = let un : IsFlooredUnopened config who held why.0 e = why.1 in why_unopened among why.0 e un.unopened
