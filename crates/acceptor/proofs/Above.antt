@@ -1,4 +1,5 @@
 -- What is left of an acceptor above a floor stands for the facts that are kept.
+-- Needed by `Acceptor::above`.
 use Rattle.std.proofs.Common.{◌≡◌, ◌∙◌, ℕ, Bool, true, false, not, if◌then◌else◌, List, [], Some, refl, sym, ap, subst}
 use Rattle.std.specs.List.{list_any}
 use Rattle.std.proofs.lemmas.Bool.{not-true}

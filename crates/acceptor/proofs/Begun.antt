@@ -1,4 +1,5 @@
 -- The transactions that facts of an acceptor are about are those of which some slot is taken.
+-- Needed by Above, Compacting and Lengths; crate forgetting.
 use Rattle.std.proofs.Common.{◌≡◌, ◌∙◌, ◌==◌, ℕ, ◌<◌, ◌≤◌, max, Bool, true, false, not, ◌&&◌, ◌||◌, ltb, leb, List, [], ◌∷◌, ◌++◌}
 use Rattle.std.proofs.Common.{Option, Some, None, refl, sym, ap, subst, append_assoc, append-nil, arith}
 use Rattle.std.specs.Prelude.{if◌then◌else◌, is_some, nat_lt, fold}

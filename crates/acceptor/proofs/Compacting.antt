@@ -1,4 +1,5 @@
 -- The facts of a compacted record play, and lead each slot to where it stands.
+-- Needed by `Acceptor::shorter`.
 use Rattle.std.proofs.Common.{◌≡◌, ◌∙◌, ◌==◌, ℕ, ◌<◌, ◌≤◌, max, Bool, true, false, not, ◌&&◌, ◌||◌, ltb, leb, List, [], ◌∷◌, ◌++◌, length}
 use Rattle.std.proofs.Common.{Some, None, refl, sym, ap, subst, append_assoc, arith, map, sum}
 use Rattle.std.specs.Prelude.{if◌then◌else◌}

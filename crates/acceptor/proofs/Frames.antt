@@ -1,4 +1,5 @@
 -- What an acceptor writes, frame by frame.
+-- Needed by `write_accept`, `write_common` and `write_promise`.
 use Rattle.std.proofs.Common.{◌≡◌, ◌∙◌, ℕ, ◌<◌, max, Bool, true, List, [], ◌∷◌, ◌++◌, Some, sym, ap, subst}
 use Rattle.std.proofs.Common.{arith}
 use Rattle.std.specs.Prelude.{OnOk, Result, Ok, Err, nat_lt, if◌then◌else◌}

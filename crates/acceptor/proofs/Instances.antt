@@ -1,4 +1,5 @@
 -- The instances of a transaction, by their places, and the items of a bundle, one after the other.
+-- Needed by 6 functions of this crate; 6 files here.
 use Rattle.std.proofs.Common.{◌≡◌, ◌∙◌, ◌==◌, ℕ, suc, ◌+◌, ◌<◌, ◌≤◌, Bool, true, false, ◌&&◌, ◌||◌, cond, List, [], ◌∷◌, ◌++◌}
 use Rattle.std.proofs.Common.{length, get_or, drop, map, Option, Some, None, refl, sym, ap, subst, append_assoc, arith}
 use Rattle.std.specs.Prelude.{filter, filter_map, is_some, IfSome, MatchOption, IsTrue}

@@ -1,4 +1,5 @@
 -- The least ballot that the instances of a transaction took part in.
+-- Needed by `is_some_promised` and `least_ballot`; Compacting and Lengths.
 use Rattle.std.proofs.Common.{◌≡◌, ◌∙◌, ◌==◌, ℕ, ◌+◌, ◌<◌, ◌≤◌, min, Bool, true, false, ◌||◌, List, [], ◌∷◌, length, map}
 use Rattle.std.proofs.Common.{drop, fold, refl, sym, ap, arith}
 use Rattle.std.specs.Prelude.{if◌then◌else◌}

@@ -1,4 +1,5 @@
 -- The frames of a shorter record are together no longer than those of the facts that it says.
+-- Needed by Compacting; crate node_core.
 use Rattle.std.proofs.Common.{◌≡◌, ◌∙◌, ◌==◌, ℕ, ◌+◌, ◌<◌, ◌≤◌, max, Bool, true, false, ◌&&◌, ◌||◌, ltb, leb, not, List, [], ◌∷◌, ◌++◌}
 use Rattle.std.proofs.Common.{map, sum, Some, None, refl, sym, ap, subst, append_assoc, append-nil, arith}
 use Rattle.std.specs.Prelude.{if◌then◌else◌}

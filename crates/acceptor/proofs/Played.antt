@@ -1,4 +1,5 @@
 -- The slots after a fact that plays, and those that the facts with it say.
+-- Needed by `Table::change`; Begun, Compacting, Lengths, Rows and Standing.
 use Rattle.std.proofs.Common.{◌≡◌, ◌≢◌, ◌∙◌, ◌==◌, ℕ, ◌<◌, ◌≤◌, max, Bool, true, false, not, ◌&&◌, cond, ltb, leb, List, [], ◌∷◌, ◌++◌}
 use Rattle.std.proofs.Common.{length, get_or, set, map, Option, Some, None, refl, sym, ap, arith}
 use Rattle.std.specs.Prelude.{filter_map}

@@ -1,4 +1,5 @@
 -- What is reported of the instances that stand below a ballot, as an item of each that does.
+-- Needed by `accepts_after`, `report_at` and `reports_below`.
 use Rattle.std.proofs.Common.{◌≡◌, ◌∙◌, ℕ, ◌<◌, ◌≤◌, Bool, true, false, ◌||◌, cond, ltb, List, [], ◌∷◌, length, map, Option, Some, None}
 use Rattle.std.proofs.Common.{refl, sym, ap, arith}
 use Rattle.std.specs.Prelude.{filter, filter_map, IfSome, MatchOption}

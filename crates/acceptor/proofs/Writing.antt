@@ -1,4 +1,5 @@
 -- The facts of a compacted record as they are written, one transaction and one instance after the other.
+-- Needed by `write_accepts` and `write_promises`.
 use Rattle.std.proofs.Common.{◌≡◌, ◌∙◌, ℕ, ◌+◌, ◌<◌, List, ◌++◌, length, get_or, drop, sym, ap, arith}
 use Rattle.std.specs.List.{flat_map}
 use Rattle.std.proofs.lemmas.List.{get_or_default, get_or-map, length-map}

@@ -1,4 +1,5 @@
 -- What each client call meets and leaves, exit by exit.
+-- Needed by 8 functions of this crate; TableKept; crates history and cluster_run.
 use Rattle.std.proofs.Common.{◌≡◌, ◌≢◌, ◌∙◌, ℕ, Bool, true, false, ◌||◌, ◌&&◌, cond, ltb, List, [], length, Option, Some, None, Ok, Err}
 use Rattle.std.proofs.Common.{refl, sym, ap, subst, Decides}
 use Rattle.std.specs.Option.{option_map}

@@ -1,4 +1,5 @@
 -- Branches by their names: what a look-up finds, and what a change of one entry leaves.
+-- Needed by 7 functions of this crate; CallSteps and TableKept; crate resource_manager.
 use Rattle.std.proofs.Common.{◌≡◌, ◌∙◌, ℕ, zero, suc, ◌+◌, ◌<◌, Bool, true, false, cond, List, [], ◌∷◌, ◌++◌, length, map, get_or, Option}
 use Rattle.std.proofs.Common.{Some, None, Bor, refl, sym, ap, subst, arith}
 use Rattle.std.specs.List.{IsDistinct, sum_by, swap_remove}

@@ -1,4 +1,5 @@
 -- Another branch hinders where a key has more uses than the own branch makes of it.
+-- Needed by 5 functions of this crate; OutcomeSteps and TableKept.
 use Rattle.std.proofs.Common.{◌≡◌, ◌∙◌, ℕ, ◌+◌, ◌<◌, ◌≤◌, Bool, true, false, not, ◌&&◌, ◌||◌, cond, ltb, List, [], ◌∷◌, Some, None}
 use Rattle.std.proofs.Common.{refl, sym, ap, subst, arith, Decides, inl, inr}
 use Rattle.std.specs.List.{list_any, AllByRecursion, IsDistinct}

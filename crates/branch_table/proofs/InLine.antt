@@ -1,4 +1,5 @@
 -- Rows whose keys ascend or descend as they stand.
+-- Needed by `keys_ascend` and `keys_descend`.
 use Rattle.std.proofs.Common.{◌≡◌, ◌∙◌, ℕ, ◌+◌, ◌-◌, ◌<◌, Bool, true, false, List, length, get_or, reverse}
 use Rattle.std.proofs.Common.{refl, ap, arith}
 use Rattle.std.specs.declared.cmp.Ordering.{Ordering}

@@ -1,4 +1,5 @@
 -- The place at which an act on a key is noted among ascending keys, and what is found there.
+-- Needed by `act_on`, `place_of` and `touch_key`.
 use Rattle.std.proofs.Common.{◌≡◌, ◌∙◌, ℕ, zero, suc, ◌<◌, ◌≤◌, Bool, true, false, not, ◌||◌, ltb, cond, List, [], ◌∷◌, length, get_or, set}
 use Rattle.std.proofs.Common.{Some, None, refl, sym, ap, subst, arith, inl, inr}
 use Rattle.std.specs.List.{insert, position, prefix_len}

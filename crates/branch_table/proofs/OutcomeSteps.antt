@@ -1,4 +1,5 @@
 -- What becomes of branches: which keys are idle, and what an end has looked at.
+-- Needed by `BranchTable::commit`, `BranchTable::prepare` and `BranchTable::undo`.
 use Rattle.std.proofs.Common.{◌≡◌, ◌∙◌, ℕ, ◌+◌, ◌*◌, ◌≤◌, Bool, true, false, cond, List, [], ◌∷◌, length, Option, Some, None, refl, sym, ap}
 use Rattle.std.proofs.Common.{subst, arith}
 use Rattle.std.specs.List.{IsDistinct}

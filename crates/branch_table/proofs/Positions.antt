@@ -1,4 +1,5 @@
 -- Where a search of a list finds nothing.
+-- Needed by `act_on` and `touch_key`; Found.
 use Rattle.std.proofs.Common.{◌≡◌, ℕ, ◌≤◌, ◌<◌, Bool, true, false, not, ltb, cond, List, length, get_or, Some, None, refl, arith}
 use Rattle.std.specs.List.{position, prefix_len}
 use Rattle.std.proofs.lemmas.Bool.{ltb-false, not-true}

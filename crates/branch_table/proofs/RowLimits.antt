@@ -1,4 +1,5 @@
 -- Rows stay within the limits.
+-- Needed by `Places::leave` and `Places::put`; PlaceTable.
 use Rattle.std.proofs.Common.{◌≡◌, ℕ, Bool, true, not, ◌&&◌, nat_lt, nat_le, cond, List, [], ◌∷◌, length, refl}
 use Rattle.std.specs.Prelude.{filter}
 use Rattle.std.specs.Ordering.{nat_cmp, is_lt}

@@ -1,5 +1,6 @@
 -- What a change of one branch keeps: no name has two, holds are the touched keys the other way round, and no key is held by two branches
 -- of which one has written it.
+-- Needed by 7 functions of this crate.
 use Rattle.std.proofs.Common.{◌≡◌, ◌≢◌, ◌∙◌, ℕ, ◌+◌, ◌-◌, Bool, true, false, ◌||◌, cond, List, [], ◌∷◌, Option, Some, None, Contains}
 use Rattle.std.proofs.Common.{length, ◌<◌, ◌^◌, refl, sym, ap, subst, arith, inl, inr}
 use Rattle.std.specs.List.{IsDistinct}

@@ -1,4 +1,5 @@
 -- What touched keys, which ascend, use of a key: after one more act, and one key after the other.
+-- Needed by 8 functions of this crate; Hindered, OutcomeSteps and TableKept.
 use Rattle.std.proofs.Common.{◌≡◌, ◌∙◌, ℕ, zero, suc, ◌+◌, ◌-◌, ◌^◌, ◌≤◌, ◌<◌, Bool, true, false, not, ◌&&◌, ◌||◌, ◌==◌, cond, ltb, List}
 use Rattle.std.proofs.Common.{[], ◌∷◌, length, get_or, take, drop, refl, sym, ap, subst, arith}
 use Rattle.std.specs.List.{AllByRecursion}

@@ -1,4 +1,5 @@
 -- How branches show: after one was added, after one more act on a key, and which of them hinder.
+-- Needed by CallSteps and Hindered; crates resource_manager, history and cluster_run.
 use Rattle.std.proofs.Common.{◌≡◌, ◌≢◌, ◌∙◌, ℕ, Bool, true, false, not, ◌&&◌, cond, List, [], ◌∷◌, ◌++◌, refl, sym, ap}
 use Rattle.std.specs.List.{list_any}
 use Rattle.std.proofs.lemmas.Bool.{both_ways, cond_both, or_left, or_parts, or_right}

@@ -1,4 +1,5 @@
 -- A cluster is asked about a resource manager: it stays what it is.
+-- Needed by `Cluster::table`, `Cluster::view`, `table` and `view`.
 use Rattle.std.proofs.Common.{◌≡◌, ◌⊎◌, inl, inr, ◌∙◌, ℕ, List, get_or, set, []}
 use Rattle.std.proofs.Common.{Option, Some, None, refl, sym, ap, subst}
 use Rattle.std.specs.Prelude.{slice_get, Result, Err}

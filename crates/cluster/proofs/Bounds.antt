@@ -1,4 +1,5 @@
 -- How many datagrams a node sends at most.
+-- Needed by `most_asked` and `most_heard`; Handed and Reaching.
 use Rattle.std.proofs.Common.{◌≡◌, ◌∙◌, ℕ, zero, suc, ◌+◌, ◌*◌, ◌<◌, ◌≤◌, Bool, true, false, if◌then◌else◌, not, List, [], ◌∷◌, ◌++◌}
 use Rattle.std.proofs.Common.{length, map}
 use Rattle.std.proofs.Common.{Option, Some, None, refl, sym, ap, subst, length-append, arith}

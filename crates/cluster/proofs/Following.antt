@@ -1,4 +1,5 @@
 -- Events one after another are events of a world with floors one after another; and what befalls records that don't fail of themselves.
+-- Needed by `firm_records_hold` and `runs_follow_the_machine`; crates cluster_progress, cluster_answers and cluster_run.
 use Rattle.std.proofs.Common.{◌≡◌, ◌∙◌, ℕ, ◌<◌, Bool, true, false, List, [], ◌∷◌, length, get_or, Option, Some, None}
 use Rattle.std.proofs.Common.{refl, sym, subst, arith}
 use Rattle.std.specs.Prelude.{slice_get}

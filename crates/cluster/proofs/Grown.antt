@@ -1,4 +1,5 @@
 -- What an event makes of the facts of each node, and of tables: one fact more at most, and a commit writes what its branch wrote.
+-- Needed by Safe.
 use Rattle.std.proofs.Common.{◌≡◌, ◌⊎◌, inl, inr, ◌∙◌, ℕ, true, if◌then◌else◌, List, [], ◌∷◌, ◌++◌, length}
 use Rattle.std.proofs.Common.{Option, Some, None, refl, sym, ap, subst, nat_lt, append_assoc}
 use Rattle.std.specs.Prelude.{unwrap_or}

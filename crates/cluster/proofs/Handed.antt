@@ -1,4 +1,5 @@
 -- What the functions of this crate make of each event at which no floor rises.
+-- Needed by 9 functions of this crate.
 use Rattle.std.proofs.Common.{◌≡◌, ◌∙◌, ℕ, ◌*◌, ◌<◌, ◌≤◌, true, false, List, [], ◌∷◌, length, take}
 use Rattle.std.proofs.Common.{get_or, set}
 use Rattle.std.proofs.Common.{Option, Some, None, refl, sym, ap, subst, arith}

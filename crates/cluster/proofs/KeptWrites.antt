@@ -1,4 +1,5 @@
 -- What is kept for branches: nothing comes to be kept but what a put or a delete wrote that was answered ok.
+-- Needed by Safe.
 use Rattle.std.proofs.Common.{◌≡◌, ◌≢◌, ◌⊎◌, inl, inr, ◌∙◌, ℕ, Bool, true, false, if◌then◌else◌, List, [], ◌∷◌}
 use Rattle.std.proofs.Common.{Option, Some, None, unwrap_or, refl, sym, ap, subst}
 use Rattle.std.specs.Option.{option_map, option_map_or}

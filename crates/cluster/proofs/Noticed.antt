@@ -1,4 +1,5 @@
 -- What an event adds to the datagrams and to the notices of a world with floors, and how those are read off a cluster.
+-- Needed by `Cluster::step`, `list_told`, `most_told` and `put_all`; Occurring; crates cluster_run and run_traces.
 use Rattle.std.proofs.Common.{◌≡◌, ◌∙◌, ℕ, zero, suc, ◌+◌, ◌-◌, ◌<◌, ◌≤◌, Bool, true, false, if◌then◌else◌, List, []}
 use Rattle.std.proofs.Common.{◌∷◌, ◌++◌, length, map}
 use Rattle.std.proofs.Common.{Option, Some, None, take, drop, get_or, refl, sym, ap, subst, append_assoc, length-append, nat_lt, arith}

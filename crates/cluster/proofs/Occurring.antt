@@ -1,4 +1,5 @@
 -- What was answered of an event is what comes of it in a world with floors.
+-- Needed by `Cluster::step`, `events_are_safe`, `happen`, `noise` and `unmade`; Handed, Raised, Renewed and Replaced.
 use Rattle.std.proofs.Common.{◌≡◌, ◌∙◌, ℕ, zero, suc, ◌<◌, ◌≤◌, Bool, true, false, List, [], ◌∷◌, ◌++◌, length, take, drop}
 use Rattle.std.proofs.Common.{Option, Some, None, refl, sym, ap, subst, nat_lt, arith}
 use Rattle.std.specs.Prelude.{if◌then◌else◌, is_some}

@@ -1,4 +1,5 @@
 -- A cluster is made: node after node, and for which world it stands then.
+-- Needed by `Cluster::new`, `open_all` and `open_new`; Following.
 use Rattle.std.proofs.Common.{◌≡◌, ◌⊎◌, ◌∙◌, inl, inr, ℕ, suc, ◌+◌, ◌<◌, Bool, true, false, List, [], ◌∷◌}
 use Rattle.std.proofs.Common.{◌++◌, length, map, get_or, Option, Some, None, refl, sym, ap, subst, append_assoc, length-append}
 use Rattle.std.proofs.Common.{arith}

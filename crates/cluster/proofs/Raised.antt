@@ -1,4 +1,5 @@
 -- A floor rises, and a notice is heard: what comes of it is what comes of it in a world with floors.
+-- Needed by `hear` and `raise`.
 use Rattle.std.proofs.Common.{◌≡◌, ◌∙◌, ℕ, zero, suc, ◌<◌, Bool, true, false, if◌then◌else◌, List, [], ◌++◌, length}
 use Rattle.std.proofs.Common.{get_or, set}
 use Rattle.std.proofs.Common.{Option, Some, None, refl, sym, ap, subst, arith}

@@ -1,4 +1,5 @@
 -- A node of a cluster is handed an input: what comes of it is what comes of it in a world with floors.
+-- Needed by `most_delivered` and `most_sent`; Handed and Occurring.
 use Rattle.std.proofs.Common.{◌≡◌, ◌∙◌, ℕ, ◌*◌, ◌≤◌, Bool, true, false, not, List, [], ◌++◌, length, get_or, set}
 use Rattle.std.proofs.Common.{Option, Some, None, sym, ap, subst, arith}
 use Rattle.std.specs.Prelude.{if◌then◌else◌, slice_get}

@@ -1,4 +1,5 @@
 -- A node is torn, restarted or compacted: what comes of it is what comes of it in a world with floors.
+-- Needed by `compact`, `restart` and `tear`; Replaced.
 use Rattle.std.proofs.Common.{◌≡◌, ◌∙◌, inl, inr, ℕ, ◌<◌, Bool, true, false, if◌then◌else◌, List, [], ◌++◌, length, get_or, set}
 use Rattle.std.proofs.Common.{Option, Some, None, refl, sym, ap, subst, arith}
 use Rattle.std.specs.Prelude.{slice_get, replicate, Result, Ok, Err}

@@ -1,4 +1,5 @@
 -- A blank node stands in the place of a lost one: what comes of it is what comes of it in a world with floors.
+-- Needed by `replace`.
 use Rattle.std.proofs.Common.{◌≡◌, ◌∙◌, ℕ, Bool, true, false, not, if◌then◌else◌, List, [], get_or, set, Option, Some, None}
 use Rattle.std.proofs.Common.{refl, sym, ap, subst}
 use Rattle.std.specs.Prelude.{slice_get, Result, Ok, Err}

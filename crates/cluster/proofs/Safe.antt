@@ -1,4 +1,5 @@
 -- An event of a cluster is safe, as it is in the machine: with floors it is one of the machine's, or none.
+-- Needed by `Cluster::step`, `Cluster::step_into` and `events_are_safe`.
 use Rattle.std.proofs.Common.{◌≡◌, ◌≢◌, ◌⊎◌, inl, inr, ℕ, suc, Bool, true, false, if◌then◌else◌, List, [], ◌∷◌, Option, Some, None}
 use Rattle.std.proofs.Common.{refl, ◌∙◌, sym, ap, subst, arith}
 use Rattle.std.specs.Prelude.{is_some, slice_get}

@@ -1,4 +1,5 @@
 -- A node with a floor is asked what its record says: it stays what it is, and says what the machine's node says that forgot nothing.
+-- Needed by `Floored::own_floor`, `Floored::table` and `Floored::view_above`; Replacing.
 use Rattle.std.proofs.Common.{◌≡◌, ◌∙◌, ◌⊎◌, inl, inr, true, false, List, Option, Some, None, is_none, is_some, refl, sym, ap, subst, ℕ}
 use Rattle.std.specs.Prelude.{Result, Ok, Err}
 use Rattle.xid.specs.Places.{Place, is_below}

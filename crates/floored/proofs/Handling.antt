@@ -1,4 +1,5 @@
 -- What an input makes of a node with a floor.
+-- Needed by `Floored::step_into`; Grouping, Replacing, Restarting, Rising and Seen.
 use Rattle.std.proofs.Common.{◌≡◌, ◌∙◌, Bool, true, false, ◌&&◌, not, if◌then◌else◌, List, [], Option, None, refl, sym, ap, subst}
 use Rattle.xid.specs.Places.{Place}
 use Rattle.stable_record.specs.declared.fact.FactKind.{FactKind as Fact}

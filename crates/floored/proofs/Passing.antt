@@ -1,4 +1,5 @@
 -- Which inputs are below a floor, by their bytes.
+-- Needed by `is_datagram_below` and `is_message`.
 use Rattle.std.proofs.Common.{◌≡◌, ◌≢◌, ◌∙◌, ℕ, Bool, true, false, List, ◌++◌, length, ◌-◌, take, drop, Option, Some, None}
 use Rattle.std.proofs.Common.{refl, sym, ap, arith}
 use Rattle.std.proofs.Common.{append_assoc}

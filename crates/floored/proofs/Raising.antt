@@ -1,4 +1,5 @@
 -- A node that is asked to raise its floor: when it is up.
+-- Needed by crates cluster and port.
 use Rattle.std.proofs.Common.{◌≡◌, Bool, true, false, not, if◌then◌else◌, Option, Some, refl}
 use Rattle.xid.specs.Places.{Place, is_lower}
 use Rattle.xid.specs.declared.refusals.Refusal.TheVariants as refusals

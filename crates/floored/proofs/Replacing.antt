@@ -1,4 +1,5 @@
 -- A blank acceptor or leader that was to stand in for a lost one.
+-- Needed by `Floored::may_be_replaced`, `Floored::replace` and `Floored::restart_above`; crates cluster, port and floored_groups.
 use Rattle.std.proofs.Common.{◌≡◌, ◌∙◌, ◌⊎◌, inl, inr, ℕ, Bool, true, false, not, ◌&&◌, if◌then◌else◌, Option, Some, None, is_some}
 use Rattle.std.proofs.Common.{refl, sym, ap, subst}
 use Rattle.std.specs.Prelude.{IsTrue, List, [], Result, Ok, Err}

@@ -1,4 +1,5 @@
 -- A node with a floor that restarts, or whose record is made shorter.
+-- Needed by `Floored::compact` and `Floored::restart`; Asked and Seen.
 use Rattle.std.proofs.Common.{◌≡◌, ◌∙◌, ◌⊎◌, inl, inr, ℕ, true, false, List, Option, None, is_some, refl, sym, ap, subst}
 use Rattle.std.specs.Prelude.{Result, Err}
 use Rattle.xid.specs.Places.{Place}

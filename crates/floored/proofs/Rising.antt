@@ -1,4 +1,5 @@
 -- A node whose floor was to rise.
+-- Needed by `Floored::raise`; Replacing and Seen.
 use Rattle.std.proofs.Common.{◌≡◌, ◌∙◌, inl, inr, ℕ, Bool, true, false, ◌&&◌, not, if◌then◌else◌, List, Option, Some, None, is_some}
 use Rattle.std.proofs.Common.{refl, sym, ap, subst}
 use Rattle.std.specs.Prelude.{Result, Ok, Err}

@@ -1,4 +1,5 @@
 -- What is said of a node with a floor, of the node as its callers see it.
+-- Needed by 5 functions of this crate; crates cluster and port.
 use Rattle.std.proofs.Common.{◌≡◌, ◌∙◌, Bool, true, false, List, Option, Some, None, is_some, is_none, refl, sym, ap, subst}
 use Rattle.std.specs.Prelude.{Result, Ok, Err}
 use Rattle.xid.specs.Places.{Place, is_lower}

@@ -1,4 +1,5 @@
 -- How a node with a floor is opened, and what is left of it.
+-- Needed by `Floored::arm` and `Floored::open`; crate port.
 use Rattle.std.proofs.Common.{◌≡◌, ◌∙◌, ℕ, true, List, [], ◌∷◌, ◌++◌, Option, Some, is_some, inr, refl, sym, ap, subst}
 use Rattle.xid.specs.Places.{Place}
 use Rattle.xid.specs.declared.refusals.Refusal.{Refusal}

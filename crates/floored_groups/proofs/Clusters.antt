@@ -1,4 +1,5 @@
 -- Whatever becomes of all processes of a cluster, they stand for a world that groups with floors lead to.
+-- Needed by `processes_are_clusters`; Telling and Views; crate process_history.
 use Rattle.std.proofs.Common.{◌≡◌, ◌≢◌, ◌∙◌, ◌⊎◌, inl, inr, ℕ, zero, suc, ◌+◌, ◌<◌, Bool, true, false, if◌then◌else◌, List, [], ◌∷◌}
 use Rattle.std.proofs.Common.{◌++◌, length, map}
 use Rattle.std.proofs.Common.{Option, Some, None, refl, sym, ap, subst, append-nil, arith}

@@ -1,5 +1,6 @@
 -- How a cluster goes on from a world to another, at one process: step after step, by a group at its node, and by an event that hands it no
 -- input. What a process is handed, and what else befalls it, is proved by these.
+-- Needed by Clusters, Heard, Reopened, Single, Taken and Upkept.
 use Rattle.std.proofs.Common.{◌≡◌, ◌∙◌, Bool, true, false, if◌then◌else◌, List, [], ◌∷◌, ◌++◌, length, Option, refl, sym, ap}
 use Rattle.std.proofs.Common.{subst, append-nil, append_assoc}
 use Rattle.std.specs.List.{AllByRecursion, flat_map}

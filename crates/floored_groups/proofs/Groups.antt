@@ -1,4 +1,5 @@
 -- A group under a floor does what the group of those of its inputs does that aren't below it. Worlds with floors are then worlds of groups.
+-- Needed by `groups_with_floors_are_groups`; Reached.
 use Rattle.std.proofs.Common.{◌≡◌, ◌∙◌, Bool, true, false, if◌then◌else◌, List, [], ◌∷◌, ◌++◌, Option, refl, sym, ap}
 use Rattle.std.specs.List.{AllByRecursion, flat_map}
 use Rattle.std.proofs.lemmas.Bool.{cond-true, cond-false}

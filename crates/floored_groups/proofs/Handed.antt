@@ -1,5 +1,6 @@
 -- A group at a process is a group at the node that it stands for, of the same inputs, each with a fault: it is handled, answered and sent
 -- alike. What a process takes at once is proved by it.
+-- Needed by Taken.
 use Rattle.std.proofs.Common.{◌≡◌, ◌∙◌, List, [], ◌∷◌, ◌++◌, map, Option, refl, sym, ap, subst}
 use Rattle.std.specs.List.{AllByRecursion}
 use Rattle.xid.specs.Places.{Place}

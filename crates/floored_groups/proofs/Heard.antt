@@ -1,4 +1,5 @@
 -- A notice that a process hears is the world's event that its node hears it. What a process takes one after another is proved by it.
+-- Needed by Taken and Upkept.
 use Rattle.std.proofs.Common.{◌≡◌, ◌≢◌, ◌∙◌, ℕ, zero, suc, ◌+◌, ◌<◌, ◌==◌, Bool, true, false, if◌then◌else◌, List, [], ◌∷◌, map}
 use Rattle.std.proofs.Common.{Option, Some, None, inl, inr, refl, sym, ap, subst, append-nil, arith}
 use Rattle.std.specs.Prelude.{is_some, slice_get, MatchBool, Result}

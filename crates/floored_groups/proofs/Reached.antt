@@ -1,4 +1,5 @@
 -- A world with floors that groups lead to is, in the machine, one that groups lead to. So what holds of these worlds holds of it.
+-- Needed by `consistent`, `each_step`, `groups_are_events` and `groups_with_floors_are_groups`; Telling and Views.
 use Rattle.std.proofs.Common.{◌≡◌, ◌∙◌, inl, Bool, true, false, if◌then◌else◌, List, [], ◌∷◌, ◌++◌, Option, Some, refl, sym, ap, subst}
 use Rattle.std.proofs.Common.{append-nil}
 use Rattle.std.specs.Prelude.{slice_get}

@@ -1,5 +1,6 @@
 -- What becomes of a cluster whose nodes have floors and work in groups is what events with floors make, one at a time. So its floors pass
 -- nothing that is prepared.
+-- Needed by `groups_are_floored_events` and `nothing_is_below`; crate process_history.
 use Rattle.std.proofs.Common.{◌≡◌, ◌∙◌, inl, inr, ℕ, Bool, true, false, not, if◌then◌else◌, List, [], ◌∷◌, ◌++◌, Option, Some, None}
 use Rattle.std.proofs.Common.{refl, sym, ap, subst, append-nil}
 use Rattle.std.specs.Prelude.{slice_get}

@@ -1,4 +1,5 @@
 -- All that a process takes at once its node takes in a world: a group of it, and then, one after another, what was set aside.
+-- Needed by `processes_take_all` and `processes_take_one`; Clusters.
 use Rattle.std.proofs.Common.{◌≡◌, ◌∙◌, inl, inr, Bool, true, false, not, if◌then◌else◌, List, [], ◌∷◌, ◌++◌, map, Option, Some}
 use Rattle.std.proofs.Common.{None, refl, sym, ap, subst, append-nil}
 use Rattle.std.specs.Prelude.{is_some, slice_get, MatchBool, Ok, Err}

@@ -1,4 +1,5 @@
 -- What processes reply to clients is told in a run of the machine, which tells one outcome of each transaction, and what it tells holds.
+-- Needed by `processes_tell_one_outcome` and `told_outcomes_hold`.
 use Rattle.std.proofs.Common.{◌≡◌, ◌∙◌, inl, inr, ℕ, Bool, true, false, not, if◌then◌else◌, List, [], ◌∷◌, Option, refl, sym, ap, subst}
 use Rattle.std.specs.Prelude.{IsTrue, Ok}
 use Rattle.xid.specs.Places.{Place}

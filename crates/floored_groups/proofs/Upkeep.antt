@@ -1,5 +1,6 @@
 -- What hands no input to a node is answered, where floors are, as the event of the machine is that it comes to, if it comes to one. So the
 -- machine's run answers alike.
+-- Needed by Reached.
 use Rattle.std.proofs.Common.{◌≡◌, ◌∙◌, ℕ, Bool, true, false, not, ◌&&◌, if◌then◌else◌, Option, Some, None, refl}
 use Rattle.std.proofs.Common.{sym, ap}
 use Rattle.std.specs.Prelude.{slice_get}

@@ -1,4 +1,5 @@
 -- What processes answer of where they stand is what a world of the machine says; and so no two of them contradict each other.
+-- Needed by `processes_are_asked` and `views_agree`; Telling; crate process_history.
 use Rattle.std.proofs.Common.{◌≡◌, ◌∙◌, inl, inr, ℕ, Bool, true, false, ◌&&◌, if◌then◌else◌, List, [], Option, refl, sym, ap, subst}
 use Rattle.std.specs.Prelude.{IsTrue, Ok, Err}
 use Rattle.std.specs.Option.{option_map_or}

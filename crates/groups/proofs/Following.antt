@@ -1,4 +1,5 @@
 -- Events of the machine follow a cluster whose nodes work in groups.
+-- Needed by Reached.
 use Rattle.std.proofs.Common.{◌≡◌, ◌∙◌, Bool, true, false, if◌then◌else◌, List, [], ◌∷◌, ◌++◌, Some, inl, inr}
 use Rattle.std.proofs.Common.{refl, sym, ap, subst}
 use Rattle.std.specs.List.{AllByRecursion, flat_map}

@@ -1,4 +1,5 @@
 -- The events by which a transaction is ended in a backed world are moves of a cluster whose nodes work in groups.
+-- Needed by `decides`, `ends`, `idle_branches_lead_to_commit`, `participants_follow`, `votes_decide` and `votes_lead_to_commit`.
 use Rattle.std.proofs.Common.{◌≡◌, ◌⊎◌, inl, inr, ◌∙◌, ℕ, Bool, true, false, if◌then◌else◌, List, [], ◌∷◌, ◌++◌, Option, Some, None}
 use Rattle.std.proofs.Common.{refl, sym, ap, subst}
 use Rattle.std.specs.Prelude.{map}

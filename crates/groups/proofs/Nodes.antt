@@ -1,4 +1,5 @@
 -- A group at a node over a record is one of the machine.
+-- Needed by `nodes_work_in_groups`.
 use Rattle.std.proofs.Common.{◌≡◌, ◌∙◌, List, [], ◌∷◌, ◌++◌, None, refl, sym, ap, subst, append-nil}
 use Rattle.std.specs.Prelude.{map, Result, Ok, Err}
 use Rattle.std.specs.List.{flat_map}

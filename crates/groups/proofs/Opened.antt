@@ -1,4 +1,5 @@
 -- What is opened over a record goes on from the node of the machine that stood there before.
+-- Needed by `processes_go_on`; crate floored_groups.
 use Rattle.std.proofs.Common.{◌≡◌, ◌∙◌, ℕ, true, List, [], ◌++◌, Option, Some, None, refl, sym, ap, subst, append-nil}
 use Rattle.std.specs.Prelude.{if◌then◌else◌, is_some}
 use Rattle.xid.specs.declared.refusals.Refusal.{Refusal}

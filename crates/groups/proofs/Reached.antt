@@ -1,4 +1,5 @@
 -- What holds of every world of the machine holds of a cluster whose nodes work in groups.
+-- Needed by 9 functions of this crate; Leading; crates cluster_answers and floored_groups.
 use Rattle.std.proofs.Common.{◌≡◌, ◌∙◌, Bool, true, false, List, [], ◌∷◌, ◌++◌, Some, refl, sym, ap, subst}
 use Rattle.std.specs.List.{AllByRecursion}
 use Rattle.ballot.specs.Greatest.{IsIn}

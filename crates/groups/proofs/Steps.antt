@@ -1,4 +1,5 @@
 -- One input at a node is an event of the machine, in whatever world has the node and, where a message is received, a datagram of it.
+-- Needed by Following, Leading, Reached, Taking and Upkeep; crate floored_groups.
 use Rattle.std.proofs.Common.{◌≡◌, ◌∙◌, ℕ, zero, suc, Bool, true, false, not, if◌then◌else◌, List, [], ◌∷◌, ◌++◌, Option, Some, None}
 use Rattle.std.proofs.Common.{refl, sym, ap, subst}
 use Rattle.std.specs.Prelude.{slice_get}

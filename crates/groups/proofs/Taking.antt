@@ -1,4 +1,5 @@
 -- Turns come to what their moves come to, taken one at a time.
+-- Needed by `idle_branches_lead_to_commit` and `turns_go_on`; Leading.
 use Rattle.std.proofs.Common.{◌≡◌, ◌∙◌, ℕ, Bool, true, false, not, if◌then◌else◌, List, [], ◌∷◌, ◌++◌, Option, Some, None}
 use Rattle.std.proofs.Common.{refl, sym, ap, append-nil, append_assoc}
 use Rattle.std.specs.Prelude.{map}

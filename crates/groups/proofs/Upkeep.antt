@@ -1,4 +1,5 @@
 -- A restart, a compaction and an armed tear do the same to the same nodes, and send nothing.
+-- Needed by Leading and Reached; crate floored_groups.
 use Rattle.std.proofs.Common.{◌≡◌, ◌∙◌, Bool, true, false, if◌then◌else◌, List, [], ◌++◌, Option, Some, None, refl, sym, ap, append-nil}
 use Rattle.std.specs.List.{flat_map}
 use Rattle.xid.specs.declared.refusals.Refusal.TheVariants.{Down, Damaged}

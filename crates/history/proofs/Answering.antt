@@ -1,4 +1,5 @@
 -- Each answer of a run is right by the steps before it.
+-- Needed by `answers_look_back`; crates floored_history, audit and cluster_run.
 use Rattle.std.proofs.Common.{◌≡◌, inl, inr, ◌∙◌, ℕ, zero, suc, ◌+◌, ◌<◌, Bool, true, false, not, ◌&&◌, if◌then◌else◌, MatchBool, List}
 use Rattle.std.proofs.Common.{[], ◌∷◌}
 use Rattle.std.proofs.Common.{length, Option, Some, None, refl, sym, ap, subst, nat_lt, arith}

@@ -1,4 +1,5 @@
 -- What a client call of the machine leaves of the branches is what one call leaves.
+-- Needed by Kept, SerialReads, Shown and Told; crates cluster and cluster_run.
 use Rattle.std.proofs.Common.{◌≡◌, ◌≢◌, ◌⊎◌, inl, inr, ◌∙◌, Bool, true, false, not, if◌then◌else◌, cond, List, [], ◌∷◌, ◌++◌}
 use Rattle.std.proofs.Common.{map, Option, Some, None, refl, sym, ap, subst, ℕ}
 use Rattle.std.specs.Prelude.{filter_map}

@@ -1,4 +1,5 @@
 -- Of two transactions that conflict at a manager, the one that it committed first was committed first anywhere.
+-- Needed by KeyCourses, SerialReads and SerialTables.
 use Rattle.std.proofs.Common.{◌≡◌, ◌≢◌, ◌⊎◌, inl, inr, ◌∙◌, ℕ, Bool, true, false, ◌==◌, if◌then◌else◌, eq-eqb, List, [], ◌∷◌, ◌++◌}
 use Rattle.std.proofs.Common.{append-nil, Option, Some, None, unwrap_or, refl, sym, ap, subst}
 use Rattle.std.specs.Prelude.{filter_map, find}

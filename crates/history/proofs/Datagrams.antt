@@ -1,4 +1,5 @@
 -- The datagrams of a world are those that the lines of its history say.
+-- Needed by `datagrams_are_sent_lines`; Heard, LeaderRuns and Outages; crates cluster, cluster_run and run_traces.
 use Rattle.std.proofs.Common.{◌≡◌, ◌∙◌, ℕ, zero, suc, ◌+◌, Bool, false, if◌then◌else◌, List, [], ◌∷◌, ◌++◌, length, Option, Some}
 use Rattle.std.proofs.Common.{None, refl, sym, ap, subst, arith, nat_lt, eq-eqb, append-nil, append_assoc}
 use Rattle.std.specs.Prelude.{find, reverse, slice_get, ◌==◌}

@@ -1,4 +1,5 @@
 -- What a leader heard is among what came to it since its last restart.
+-- Needed by `heard_came`.
 use Rattle.std.proofs.Common.{◌≡◌, ◌⊎◌, inl, inr, ◌∙◌, ℕ, Bool, false, not, ◌||◌, if◌then◌else◌, eq-eqb, List, [], ◌∷◌, ◌++◌}
 use Rattle.std.proofs.Common.{Option, Some, None, unwrap_or, refl, sym, ap, subst, nat_lt}
 use Rattle.std.specs.Prelude.{length, ◌^◌}

@@ -1,4 +1,5 @@
 -- Keys are held once, looked back at: also while a manager is down, whose branches then are those that it had.
+-- Needed by `keys_held_once`; KeyCourses; crate floored_history.
 use Rattle.std.proofs.Common.{◌≡◌, ◌≢◌, ◌⊎◌, inl, inr, ◌∙◌, ℕ, Bool, true, false, if◌then◌else◌, List, [], ◌∷◌, refl, sym, ap, subst}
 use Rattle.std.proofs.lemmas.Bool.{false_from_ne_true}
 use Rattle.xid.specs.Names.{XidParts, xid_eq}

@@ -1,4 +1,5 @@
 -- Writes are kept: the touched keys of a vote have the last acts that the accepted writes since the last start have.
+-- Needed by Conflicts, Laws, SerialReads, SerialTables and TablesBack; crate audit.
 use Rattle.std.proofs.Common.{◌≡◌, ◌≢◌, ◌⊎◌, inl, inr, ◌∙◌, ℕ, Bool, true, false, not, cond, if◌then◌else◌, List, [], ◌∷◌, Option}
 use Rattle.std.proofs.Common.{Some, None, refl, sym, ap, subst}
 use Rattle.std.specs.Prelude.{filter_map}

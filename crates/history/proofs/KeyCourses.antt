@@ -1,4 +1,5 @@
 -- What becomes of a key that a branch has read: until its transaction has ended there, no other that writes the key commits.
+-- Needed by SerialReads.
 use Rattle.std.proofs.Common.{◌≡◌, ◌≢◌, ◌⊎◌, inl, inr, ◌∙◌, ℕ, Bool, true, false, if◌then◌else◌, List, [], ◌∷◌, ◌++◌, Option, Some}
 use Rattle.std.proofs.Common.{None}
 use Rattle.std.proofs.Common.{refl, sym, ap, subst}

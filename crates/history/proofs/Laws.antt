@@ -1,4 +1,5 @@
 -- The laws, of a world and its history.
+-- Needed by 7 functions of this crate; Answering; crates floored_history, process_history, audit and cluster_run.
 use Rattle.std.proofs.Common.{◌≡◌, ◌≢◌, ◌∙◌, ℕ, Bool, true, false, not, ◌&&◌, if◌then◌else◌, List, [], Option, Some, None, unwrap_or, map}
 use Rattle.std.proofs.Common.{refl}
 use Rattle.std.proofs.Common.{sym, ap, subst}

@@ -1,4 +1,5 @@
 -- What one event leaves of a leader's memory, by the lines of its step.
+-- Needed by LeaderRuns.
 use Rattle.std.proofs.Common.{◌≡◌, ◌≢◌, inl, inr, ◌∙◌, ℕ, Bool, true, false, not, ◌&&◌, ◌||◌, if◌then◌else◌, eq-eqb, List, []}
 use Rattle.std.proofs.Common.{◌∷◌, ◌++◌, map, Option, Some, None, unwrap_or, refl, sym, ap, subst, nat_lt}
 use Rattle.std.specs.Prelude.{◌<◌, ◌^◌, ◌==◌, filter, filter_map, find}

@@ -1,4 +1,5 @@
 -- What a leader has is what looking back over its lines says, in every run.
+-- Needed by `heard_is_what_came`; StatusAnswers.
 use Rattle.std.proofs.Common.{◌≡◌, ◌⊎◌, inl, inr, ◌∙◌, ℕ, suc, Bool, true, false, not, ◌&&◌, ◌||◌, if◌then◌else◌, eq-eqb, List, [], ◌∷◌}
 use Rattle.std.proofs.Common.{◌++◌}
 use Rattle.std.proofs.Common.{Option, Some, None, unwrap_or, refl, sym, ap, subst, nat_lt, nat_le, length}

@@ -1,4 +1,5 @@
 -- What the lines of a step say that a leader sent, by the sends of its rules.
+-- Needed by LeaderMoves and LeaderRuns.
 use Rattle.std.proofs.Common.{◌≡◌, ◌≢◌, inl, inr, ◌∙◌, ℕ, suc, Bool, true, false, if◌then◌else◌, eq-eqb, List, [], ◌∷◌, ◌++◌, map}
 use Rattle.std.proofs.Common.{Option, Some}
 use Rattle.std.proofs.Common.{None, refl, sym, ap, subst, zero, arith, unwrap_or}

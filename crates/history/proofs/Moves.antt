@@ -1,4 +1,5 @@
 -- What one event does to one resource manager.
+-- Needed by 12 files here; crates cluster and audit.
 use Rattle.std.proofs.Common.{◌≡◌, inl, inr, ◌∙◌, ℕ, Bool, true, false, not, ◌&&◌, ◌==◌, if◌then◌else◌, eq-eqb, List, [], ◌∷◌, ◌++◌}
 use Rattle.std.proofs.Common.{Option, Some, None, unwrap_or, refl, sym, ap, subst, nat_lt, nat_le}
 use Rattle.std.specs.Prelude.{length, slice_get, is_some, IfSome}

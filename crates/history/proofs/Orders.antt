@@ -1,4 +1,5 @@
 -- Lists of transactions: which of two stands first, and lists that agree on it.
+-- Needed by Conflicts, KeyCourses, SerialReads and SerialTables.
 use Rattle.std.proofs.Common.{◌≡◌, ◌≢◌, ◌⊎◌, inl, inr, ◌∙◌, Bool, true, false, ◌||◌, if◌then◌else◌, List, [], ◌∷◌, ◌++◌, Option, Some}
 use Rattle.std.proofs.Common.{None, unwrap_or, refl, sym, ap, subst}
 use Rattle.std.specs.Prelude.{filter, find}

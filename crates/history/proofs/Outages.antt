@@ -1,4 +1,5 @@
 -- Which managers are down is what looking back says, where no memory is wanted; and where it is, it says which may be.
+-- Needed by Laws.
 use Rattle.std.proofs.Common.{◌≡◌, ◌⊎◌, inl, inr, ◌∙◌, ℕ, Bool, true, false, not, ◌&&◌, ◌||◌, if◌then◌else◌, eq-eqb, List, [], ◌∷◌}
 use Rattle.std.proofs.Common.{Option, Some, None, is_some, unwrap_or, refl, sym, ap, subst, nat_lt}
 use Rattle.std.specs.Prelude.{length, is_none}

@@ -1,4 +1,5 @@
 -- What accepted writes make of rows, key by key: the last one of each key stands.
+-- Needed by TablesBack.
 use Rattle.std.proofs.Common.{◌≡◌, ◌∙◌, ℕ, Bool, true, false, cond, List, [], ◌∷◌, Option, Some, refl, sym, ap}
 use Rattle.std.specs.Prelude.{find, reverse}
 use Rattle.std.specs.Option.{option_map_or}

@@ -1,4 +1,5 @@
 -- Histories, one event after another; and the facts that their lines say.
+-- Needed by 12 functions of this crate; 13 files here; crates floored_history, cluster, audit and cluster_run.
 use Rattle.std.proofs.Common.{append_assoc, ◌≡◌, ◌∙◌, ℕ, List, [], ◌∷◌, ◌++◌, map, Option, Some, None, unwrap_or, refl, sym, ap, subst}
 use Rattle.std.specs.Prelude.{reverse}
 use Rattle.std.specs.List.{cons_option}

@@ -1,4 +1,5 @@
 -- What a committed transaction has read is what the serial run shows it.
+-- Needed by `reads_are_serial`; crates floored_history, audit and cluster_run.
 use Rattle.std.proofs.Common.{◌≡◌, ◌≢◌, inl, inr, ◌∙◌, ℕ, Bool, true, false, if◌then◌else◌, List, [], ◌∷◌, ◌++◌, Option, Some}
 use Rattle.std.proofs.Common.{None}
 use Rattle.std.proofs.Common.{append_assoc, append-nil, unwrap_or, refl, sym, ap, subst}

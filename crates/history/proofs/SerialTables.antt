@@ -1,4 +1,5 @@
 -- Conflicts and tables, looked back at, by the order of first commits.
+-- Needed by `conflicts_are_ordered` and `tables_are_serial`; SerialReads; crates floored_history, process_history, audit and cluster_run.
 use Rattle.std.proofs.Common.{◌≡◌, ◌≢◌, inl, inr, ◌∙◌, ℕ, Bool, true, false, ◌&&◌, ◌||◌, List, [], ◌∷◌, map, reverse}
 use Rattle.std.proofs.Common.{Option, Some, None}
 use Rattle.std.proofs.Common.{refl, sym, ap, subst}

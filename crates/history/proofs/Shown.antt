@@ -1,4 +1,5 @@
 -- The branches of a manager that is up are those looked back at, and so is what a call is answered.
+-- Needed by Answered, HeldOnce and Laws.
 use Rattle.std.proofs.Common.{◌≡◌, ◌≢◌, inl, inr, ◌∙◌, ℕ, Bool, true, false, ◌&&◌, List, []}
 use Rattle.std.proofs.Common.{◌∷◌, ◌++◌, map, Option, Some, None, refl, sym, ap, subst}
 use Rattle.std.specs.Prelude.{filter_map, find, option_map}

@@ -1,4 +1,5 @@
 -- What a leader answers where its status is asked for.
+-- Needed by `heard_is_what_came`.
 use Rattle.std.proofs.Common.{◌≡◌, ◌<◌, ◌∙◌, ℕ, true, not, if◌then◌else◌, List, Option, Some, None, refl, ap}
 use Rattle.std.proofs.lemmas.Bool.{cond_both, both_ways, not-true}
 use Rattle.xid.specs.Transactions.{TxParts}

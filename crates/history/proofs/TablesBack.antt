@@ -1,4 +1,5 @@
 -- The table that a manager's facts give is the one looked back at; and so are the names of its prepared branches.
+-- Needed by Conflicts, Laws, SerialReads and SerialTables.
 use Rattle.std.proofs.Common.{◌≡◌, ◌∙◌, inl, inr, ℕ, Bool, true, false, if◌then◌else◌, List, [], ◌∷◌, Option, Some, unwrap_or}
 use Rattle.std.proofs.Common.{refl, sym, ap, subst, map}
 use Rattle.std.specs.Prelude.{filter, filter_map, fold, reverse}

@@ -1,4 +1,5 @@
 -- What a manager has is what its history tells, one event after another.
+-- Needed by 10 files here; crates cluster and audit.
 use Rattle.std.proofs.Common.{◌≡◌, ◌≢◌, ◌⊎◌, inl, inr, ◌∙◌, ℕ, Bool, true, false, ◌&&◌, ◌||◌, if◌then◌else◌, eq-eqb, List}
 use Rattle.std.proofs.Common.{[], ◌∷◌, ◌++◌, Option, Some, None, unwrap_or, refl, sym, ap, subst}
 use Rattle.std.specs.Prelude.{filter_map, find}

@@ -1,4 +1,5 @@
 -- What is refused is no call that was done, and no restart.
+-- Needed by Moves and Outages.
 use Rattle.std.proofs.Common.{◌≡◌, ℕ, Bool, false, ◌&&◌, ◌==◌, if◌then◌else◌, Some, None, refl, ap}
 use Rattle.xid.specs.Names.{XidParts, xid_eq}
 use Rattle.xid.specs.declared.refusals.Refusal.{Refusal}

@@ -1,4 +1,5 @@
 -- What is left of a leader above a floor stands for the ballots and the memory that are kept.
+-- Needed by `Leader::above`.
 use Rattle.std.proofs.Common.{◌≡◌, ◌∙◌, inl, inr, ℕ, ◌<◌, Bool, true, false, not, ◌||◌, if◌then◌else◌, List, [], ◌∷◌, Option, Some, None}
 use Rattle.std.proofs.Common.{refl, sym, ap, subst, arith, nat_lt}
 use Rattle.std.specs.Prelude.{filter, filter_map, find}

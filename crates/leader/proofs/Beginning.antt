@@ -1,4 +1,5 @@
 -- Meeting a transaction, and beginning a ballot, at a course and in a leader's memory.
+-- Needed by Leading and Rules.
 use Rattle.std.proofs.Common.{◌≡◌, ◌∙◌, ℕ, Bool, true, false, not, ◌&&◌, ◌||◌, ◌==◌, List, [], ◌∷◌, Some, None, sym, ap, refl}
 use Rattle.std.specs.Prelude.{cond, if◌then◌else◌, nat_lt, filter, find}
 use Rattle.std.specs.List.{list_any}

@@ -1,4 +1,5 @@
 -- What a leader hears: a bundle has an item, and a message of one instance is a bundle of one.
+-- Needed by `Leader::on_message`.
 use Rattle.std.proofs.Common.{◌<◌, ◌+◌, ℕ, List, [], ◌∷◌, length, Option, arith}
 use Rattle.std.proofs.lemmas.List.{length-map}
 use Rattle.xid.specs.Transactions.{TxParts}

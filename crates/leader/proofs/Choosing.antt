@@ -1,4 +1,5 @@
 -- The value to propose is that of the greatest report.
+-- Needed by Proposing.
 use Rattle.std.proofs.Common.{◌≡◌, ◌∙◌, ℕ, ◌<◌, max, Bool, true, false, not, ◌&&◌, ◌||◌, List, [], ◌∷◌, Some, None, sym, ap, refl, arith}
 use Rattle.std.proofs.Common.{subst}
 use Rattle.std.specs.Prelude.{is_some, nat_lt, if◌then◌else◌}

@@ -1,4 +1,5 @@
 -- The ballots of a compacted record play, and each transaction's is its greatest.
+-- Needed by `Leader::shorter`; crates forgetting and node_core.
 use Rattle.std.proofs.Common.{◌≡◌, ◌∙◌, ◌==◌, ℕ, ◌+◌, ◌<◌, ◌≤◌, max, Bool, true, false, ◌||◌, ltb, List, [], ◌∷◌, ◌++◌}
 use Rattle.std.proofs.Common.{map, sum, refl, sym, ap, subst, append_assoc, arith}
 use Rattle.std.specs.Prelude.{if◌then◌else◌, Option, Some, None, fold}

@@ -1,4 +1,5 @@
 -- What concerns one transaction leaves a leader's memory of every other.
+-- Needed by Above, Beginning, Leading, Proposing, Reporting and Rules.
 use Rattle.std.proofs.Common.{◌≡◌, ◌∙◌, ℕ, Bool, true, false, not, ◌&&◌, ◌||◌, ◌==◌, List, [], ◌∷◌, ◌++◌, Some, None, sym, ap, refl}
 use Rattle.std.specs.Prelude.{cond, if◌then◌else◌, nat_lt, filter, filter_map, find, map}
 use Rattle.std.specs.List.{list_any, cons_option, AllByRecursion}

@@ -1,4 +1,5 @@
 -- Of some reports of an acceptor the first of an instance counts.
+-- Needed by `InstanceCourse::hear_reports`.
 use Rattle.std.proofs.Common.{◌≡◌, ◌∙◌, ℕ, Bool, true, false, not, ◌&&◌, ◌==◌, List, [], ◌∷◌, Some, None, sym, ap, refl}
 use Rattle.std.specs.Prelude.{if◌then◌else◌}
 use Rattle.wire.specs.declared.items.InstanceReport.{InstanceReport}

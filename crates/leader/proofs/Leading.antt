@@ -1,4 +1,5 @@
 -- Each call of a leader, by the rule at the course of its transaction.
+-- Needed by 8 functions of this crate; Above, Compacting and Storing; crate node_core.
 use Rattle.std.proofs.Common.{◌≡◌, ◌∙◌, ℕ, ◌<◌, ◌^◌, max, Bool, true, false, not, ◌&&◌, ◌||◌, ◌==◌, List, [], ◌∷◌, ◌++◌, Option, Some, None}
 use Rattle.std.proofs.Common.{sym, ap, refl, subst, arith}
 use Rattle.std.specs.Prelude.{if◌then◌else◌, nat_lt, filter_map, map, IsTrue, Result, Ok, Err, IfSome, IfNone}

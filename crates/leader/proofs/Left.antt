@@ -1,4 +1,5 @@
 -- The courses that are left where those of some transactions are put one after another among none.
+-- Needed by `Courses::begin_above`, `Courses::put` and `Courses::put_above`.
 use Rattle.std.proofs.Common.{◌≡◌, ◌∙◌, ℕ, suc, ◌+◌, ◌<◌, ◌≤◌, Bool, true, false, not, ◌||◌, cond, List, [], ◌∷◌, ◌++◌, length, get_or}
 use Rattle.std.proofs.Common.{Some, map, take, refl, sym, ap, subst, arith}
 use Rattle.std.specs.Prelude.{filter, if◌then◌else◌}

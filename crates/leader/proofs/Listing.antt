@@ -1,4 +1,5 @@
 -- The transactions that begin, by their places.
+-- Needed by `Courses::list` and `Courses::reserve`.
 use Rattle.std.proofs.Common.{◌≡◌, ◌∙◌, ℕ, List, length, sym, ap, subst}
 use Rattle.std.specs.Prelude.{Some, Result, Ok, Err, OnOk, OnErr}
 use Rattle.std.specs.List.{IsDistinct}

@@ -1,4 +1,5 @@
 -- The course of a transaction is found again.
+-- Needed by 8 functions of this crate; Left, Listing and Storing.
 use Rattle.std.proofs.Common.{◌≡◌, ◌∙◌, ℕ, ◌+◌, ◌<◌, true, false, List, [], ◌∷◌, ◌++◌, length, get_or, set, Some, None}
 use Rattle.std.proofs.Common.{sym, ap, refl, subst, arith}
 use Rattle.std.specs.Prelude.{if◌then◌else◌, map}

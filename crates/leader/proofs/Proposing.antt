@@ -1,4 +1,5 @@
 -- What is proposed once a majority has reported.
+-- Needed by `Leader::on_1b`; Rules.
 use Rattle.std.proofs.Common.{◌≡◌, ◌∙◌, ℕ, Bool, true, false, not, ◌&&◌, ◌||◌, ◌==◌, List, [], ◌∷◌, ◌++◌, Option, Some, None, sym, ap, refl}
 use Rattle.std.proofs.Common.{subst}
 use Rattle.std.specs.Prelude.{cond, if◌then◌else◌, filter_map, find, map, IsTrue}

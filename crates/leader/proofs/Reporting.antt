@@ -1,4 +1,5 @@
 -- What an acceptor reports in phase 1b, at a course and in a leader's memory.
+-- Needed by Rules.
 use Rattle.std.proofs.Common.{◌≡◌, ◌∙◌, ℕ, ◌<◌, Bool, true, false, not, ◌&&◌, ◌||◌, ◌==◌, List, [], ◌∷◌, Some, None, sym, ap, refl, subst}
 use Rattle.std.specs.Prelude.{if◌then◌else◌, nat_lt, filter_map}
 use Rattle.std.specs.List.{list_any, cons_option}

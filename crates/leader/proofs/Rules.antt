@@ -1,4 +1,5 @@
 -- Each rule of a leader, at the course of its transaction.
+-- Needed by Leading.
 use Rattle.std.proofs.Common.{◌≡◌, ◌∙◌, ℕ, ◌<◌, Bool, true, false, not, ◌&&◌, ◌||◌, ◌==◌, List, [], ◌∷◌, Option, Some, None, sym, ap, refl}
 use Rattle.std.proofs.Common.{subst}
 use Rattle.std.specs.Prelude.{if◌then◌else◌, filter_map, map, IsTrue}

@@ -1,4 +1,5 @@
 -- A ballot that is made ready for, and one that is stored.
+-- Needed by `Courses::make_ready`, `Courses::store`, `Leader::play_ballot` and `Leader::ready`.
 use Rattle.std.proofs.Common.{◌≡◌, ◌∙◌, ℕ, ◌<◌, ◌≤◌, ◌==◌, Bool, true, false, ◌&&◌, ◌||◌, List, [], ◌∷◌, ◌++◌, sym, ap, refl, subst}
 use Rattle.std.specs.Prelude.{if◌then◌else◌, nat_lt, Some, Result, Ok, Err, OnOk, OnErr, IfErr}
 use Rattle.std.specs.List.{list_any}

@@ -1,4 +1,5 @@
 -- What an acceptor tells in phase 2b, at a course and in a leader's memory.
+-- Needed by Beginning, Proposing, Reporting, Rules and ToldPlaces.
 use Rattle.std.proofs.Common.{◌≡◌, ◌∙◌, ℕ, zero, suc, ◌+◌, ◌*◌, ◌<◌, ◌≤◌, Bool, true, false, ◌&&◌, ◌||◌, ◌==◌, List, [], ◌∷◌, length}
 use Rattle.std.proofs.Common.{get_or, replicate, Some, None, sym, ap, refl, arith, inl, inr, subst}
 use Rattle.std.specs.Prelude.{cond, if◌then◌else◌, filter_map, find, map}

@@ -1,4 +1,5 @@
 -- The place where it is kept who told of a ballot and value of an instance.
+-- Needed by `tell`.
 use Rattle.std.proofs.Common.{◌≡◌, ◌∙◌, ℕ, suc, ◌+◌, ◌<◌, Bool, true, false, not, ◌&&◌, ◌||◌, List, [], ◌∷◌, ◌++◌, length, get_or, set}
 use Rattle.std.proofs.Common.{Option, Some, None, sym, ap, refl, arith}
 use Rattle.std.specs.Prelude.{cond, if◌then◌else◌, find}

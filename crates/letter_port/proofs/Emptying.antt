@@ -1,4 +1,5 @@
 -- What all letters are once they went, and what a node's port is then.
+-- Needed by `LetterPort::call_all` and `LetterPort::raise`; Raised.
 use Rattle.std.proofs.Common.{◌≡◌, ◌≢◌, ◌∙◌, ℕ, zero, suc, ◌<◌, ◌≤◌, ◌==◌, Bool, true, false, List, [], length, map, replicate, set, refl}
 use Rattle.std.proofs.Common.{sym, ap, subst, arith, eqb-true}
 use Rattle.std.proofs.lemmas.Bool.{eq-eqb}

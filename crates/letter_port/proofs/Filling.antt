@@ -1,5 +1,6 @@
 -- A message that is put into the letter to its receiver, and that there is room for it: what a send of an outbox does where the message may
 -- go.
+-- Needed by `OutboxPort::send`.
 use Rattle.std.proofs.Common.{◌≡◌, ◌∙◌, ℕ, ◌+◌, ◌<◌, ◌≤◌, Bool, true, MatchBool, List, [], ◌++◌, length, get_or, Some, Ok, inl, inr, sym}
 use Rattle.std.proofs.Common.{ap}
 use Rattle.std.proofs.Common.{subst, arith, length-append, ◌&&◌}

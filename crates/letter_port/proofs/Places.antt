@@ -1,4 +1,5 @@
 -- Each node of a cluster stands in one place, and each place has one node. So what is put into the letter in a place is for its node alone.
+-- Needed by Transfers.
 use Rattle.std.proofs.Common.{◌≡◌, ◌≢◌, ◌∙◌, ℕ, ◌+◌, Bool, true, false, ltb, if◌then◌else◌, [], Option, Some, None}
 use Rattle.std.proofs.Common.{refl, sym, ap}
 use Rattle.protocol.specs.declared.nodes.NodeId.{NodeId}

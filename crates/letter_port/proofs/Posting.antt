@@ -1,5 +1,6 @@
 -- What goes to nodes, and letters that go, one after another: what both have, each node's part of it, and that each letter is one that its
 -- receiver takes. What goes of a group, below, is put together of these.
+-- Needed by Transfers.
 use Rattle.std.proofs.Common.{◌≡◌, ◌∙◌, Bool, true, false, ◌&&◌, if◌then◌else◌, ℕ, List, [], ◌∷◌, ◌++◌, refl, sym, ap, subst, append_assoc}
 use Rattle.std.specs.List.{AllByRecursion}
 use Rattle.protocol.specs.declared.nodes.NodeId.{NodeId}

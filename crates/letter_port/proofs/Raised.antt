@@ -1,4 +1,5 @@
 -- A floor that was to rise, and the notices of it: what a raise of a port does, by what the node's does and what goes out of its outbox.
+-- Needed by `LetterPort::raise`.
 use Rattle.std.proofs.Common.{◌≡◌, [], length, replicate, if◌then◌else◌, Result}
 use Rattle.xid.specs.Places.{Place}
 use Rattle.xid.specs.declared.refusals.Refusal.{Refusal}

@@ -1,5 +1,6 @@
 -- Receives one after another give the messages of the letters that came, in order and once each: by what each gives, what is left and what
 -- is still to come. It is the law that a port states.
+-- Needed by `LetterPort::letters_are_taken_whole`.
 use Rattle.std.proofs.Common.{◌≡◌, ◌∙◌, ◌⊎◌, ℕ, List, [], ◌∷◌, ◌++◌, Some, None, Ok, Err, inl, inr, refl, sym, ap, subst}
 use Rattle.std.specs.List.{flat_map, AllByRecursion}
 use Rattle.std.proofs.lemmas.List.{append-nil}

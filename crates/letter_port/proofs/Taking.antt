@@ -1,4 +1,5 @@
 -- What a receive gives: what is left of a letter, and then the next one.
+-- Needed by `Arrived::take` and `LetterPort::recv`.
 use Rattle.std.proofs.Common.{◌≡◌, ◌∙◌, ℕ, ◌+◌, ◌-◌, ◌≤◌, min, List, [], ◌∷◌, ◌++◌, length, take, drop, Option, Some, None, Result, Ok, Err}
 use Rattle.std.proofs.Common.{IfNone, IfSome, inr, refl, sym, ap, subst, arith, length-append}
 use Rattle.std.specs.List.{flat_map}

@@ -1,5 +1,6 @@
 -- What is put into letters, and letters that go: what was begun and what was to go is what went and what is begun then. So what a group
 -- has to send goes, once its letters went: `Emptying` has that of an outbox, and so a port.
+-- Needed by Emptying.
 use Rattle.std.proofs.Common.{◌≡◌, ◌≢◌, ◌∙◌, ℕ, zero, suc, ◌+◌, ◌<◌, ◌≤◌, ◌==◌, Bool, true, false, if◌then◌else◌, List, [], ◌∷◌}
 use Rattle.std.proofs.Common.{◌++◌, length, map, replicate, set, Option, Some, None, Result, refl, sym, ap, subst, append_assoc, arith}
 use Rattle.std.proofs.Common.{length-append, eqb-true, inl, inr}

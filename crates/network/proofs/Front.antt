@@ -1,4 +1,5 @@
 -- How many elements at the front of a list pass a test, as the list changes.
+-- Needed by `Network::mark` and `marked_front`; Places.
 use Rattle.std.proofs.Common.{◌≡◌, ◌≢◌, ℕ, zero, suc, ◌+◌, ◌<◌, ◌≤◌, Bool, true, false, cond, List, [], ◌∷◌, ◌++◌, length, get_or, set, map}
 use Rattle.std.proofs.Common.{refl, ap, arith}
 use Rattle.std.specs.List.{prefix_len}

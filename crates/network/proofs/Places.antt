@@ -1,4 +1,5 @@
 -- The datagrams of entries, as bytes and entries are added.
+-- Needed by 7 functions of this crate.
 use Rattle.std.proofs.Common.{◌≡◌, ℕ, suc, ◌+◌, ◌-◌, ◌<◌, ◌≤◌, true, false, cond, ltb}
 use Rattle.std.proofs.Common.{List, [], ◌∷◌, ◌++◌, length, take, drop, map, get_or, set}
 use Rattle.std.proofs.Common.{refl, sym, ap, arith, ◌∙◌, subst}

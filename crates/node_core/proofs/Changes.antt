@@ -1,4 +1,5 @@
 -- The change of a view that a stored fact makes.
+-- Needed by Steps; crates floored, cluster and cluster_run.
 use Rattle.std.proofs.Common.{◌≡◌, ◌∙◌, ℕ, ◌==◌, true, not, ◌&&◌, List, [], ◌∷◌, ◌++◌, length, Option, Some, None, refl, sym, ap, arith}
 use Rattle.std.specs.Prelude.{if◌then◌else◌, slice_get, is_none}
 use Rattle.resource_manager.specs.Courses.{vote_among, is_ended_among}

@@ -1,4 +1,5 @@
 -- Frames of both versions, and those that are written today.
+-- Needed by `entry_frames`, `is_current` and `migrate`.
 use Rattle.std.proofs.Common.{◌≡◌, ◌≢◌, ◌∙◌, ℕ, ◌+◌, ◌<◌, ◌≤◌, true, false, ◌==◌, List, [], ◌∷◌, ◌++◌, length, drop, take, get_or, refl}
 use Rattle.std.proofs.Common.{sym, ap, subst}
 use Rattle.std.proofs.Common.{append_assoc, append-nil, length-append, arith, Some, None}

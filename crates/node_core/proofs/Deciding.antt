@@ -1,4 +1,5 @@
 -- What a part decides is what its node does.
+-- Needed by 11 functions of this crate; Playing.
 use Rattle.std.proofs.lemmas.Bool.{cond_both}
 use Rattle.std.proofs.Common.{unwrap_or}
 use Rattle.ballot.specs.Ballots.{next_of}

@@ -1,4 +1,5 @@
 -- Inputs that are handled as one group: what is gathered, and what comes of the append of all.
+-- Needed by `gather` and `store_at_once`.
 use Rattle.std.proofs.Common.{◌≡◌, ◌∙◌, ℕ, ◌+◌, ◌-◌, ◌<◌, ◌≤◌, zero, suc, Bool, true, false, ◌==◌, List, [], ◌∷◌, ◌++◌, length, take}
 use Rattle.std.proofs.Common.{Option}
 use Rattle.std.proofs.Common.{Some, None, inl, inr, ltb, IsTrue}

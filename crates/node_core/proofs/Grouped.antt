@@ -1,4 +1,5 @@
 -- What a group leaves: the node still stands for a node of the machine.
+-- Needed by `Node::step_all` and `handle_group`; Walked; crates floored and groups.
 use Rattle.std.proofs.Common.{◌≡◌, ◌∙◌, List, [], ◌∷◌, length, Option, None, refl, sym, ap, subst, arith}
 use Rattle.std.specs.Prelude.{map, Result, Ok, Err}
 use Rattle.xid.specs.declared.refusals.Refusal.{Refusal}

@@ -1,4 +1,5 @@
 -- What a node makes of an input is a step of the machine, whatever node of it it stands for.
+-- Needed by `Node::step_into`; Walked.
 use Rattle.std.proofs.Common.{◌≡◌, true, Option, None, List, inl, inr, sym, subst}
 use Rattle.stable_record.specs.Held.{Held}
 use Rattle.protocol.specs.declared.nodes.NodeId.{NodeId}

@@ -1,4 +1,5 @@
 -- What the bytes of a datagram come to.
+-- Needed by `hear`, `lead` and `receive`; Sparing; crate cluster.
 use Rattle.std.proofs.Common.{◌≡◌, ◌≢◌, ◌∙◌, ℕ, Bool, true, false, List, Option, Some, None, refl, sym, ap, subst}
 use Rattle.std.specs.Prelude.{if◌then◌else◌, Result}
 use Rattle.std.specs.Option.{option_map_or}

@@ -1,4 +1,5 @@
 -- What a shorter record says of transactions is no longer than the record that it stands in the place of.
+-- Needed by Shortening.
 use Rattle.std.proofs.Common.{◌≡◌, ◌∙◌, ℕ, ◌+◌, ◌≤◌, true, List, [], ◌∷◌, ◌++◌, length, map, sum, Option, Some, None, refl, sym, ap, subst}
 use Rattle.std.proofs.Common.{append-nil, arith}
 use Rattle.std.specs.Prelude.{filter}

@@ -1,4 +1,5 @@
 -- What is read of a record that is left as it is.
+-- Needed by 9 functions of this crate.
 use Rattle.std.proofs.Common.{◌≡◌, ◌∙◌, ℕ, Bool, List, Option, Some, None, inl, inr, refl, sym, ap, subst}
 use Rattle.std.specs.Prelude.{◌⊎◌, Result, Ok, Err, drop}
 use Rattle.std.specs.List.{list_all}

@@ -1,4 +1,5 @@
 -- A role that is made ready for a fact, and plays it.
+-- Needed by 8 functions of this crate.
 use Rattle.std.proofs.Common.{rules, tests}
 use Rattle.std.proofs.Common.{◌≡◌, ◌∙◌, ℕ, ◌<◌, Bool, true, List, [], ◌∷◌, ◌++◌, refl, sym, ap, subst, arith, inl, inr}
 use Rattle.node_core.proofs.Deciding.{no_config}

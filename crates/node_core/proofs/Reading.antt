@@ -1,4 +1,5 @@
 -- What was read of bytes so far.
+-- Needed by Replaying and Rows.
 use Rattle.std.proofs.Common.{◌≡◌, ◌∙◌, ℕ, List, [], ◌∷◌, ◌++◌, refl, sym, ap, subst, append_assoc}
 use Rattle.stable_record.specs.declared.entry.EntryKind.{EntryKind as Entry}
 use Rattle.stable_record.specs.Grammar.{IsStored, IsFramed, IsDamaged}

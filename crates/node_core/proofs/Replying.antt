@@ -1,4 +1,5 @@
 -- An acceptor's reply by its spelled bytes, and where it stands among what a node sends.
+-- Needed by `Replied::count`, `Replied::get`, `Replied::put` and `Replied::spelled`.
 use Rattle.std.proofs.Common.{◌≡◌, ℕ, zero, suc, ◌<◌, List, [], ◌∷◌, length, take, ap, arith}
 use Rattle.wire.specs.declared.message.Kind.{Kind}
 use Rattle.wire.specs.Decoding.{message_at}

@@ -1,4 +1,5 @@
 -- What a restart leaves, and an opening.
+-- Needed by `Node::open`, `Node::restart` and `reload`; Looking; crates cluster, groups and floored_groups.
 use Rattle.std.proofs.Common.{◌≡◌, ◌∙◌, ℕ, true, false, List, [], ◌∷◌, ◌++◌, Option, Some, None, refl, sym, ap, subst, append-nil}
 use Rattle.std.specs.Prelude.{if◌then◌else◌, Result, Ok, Err}
 use Rattle.xid.specs.declared.refusals.Refusal.{Refusal}

@@ -1,4 +1,5 @@
 -- What comes of a node whose floor was to rise.
+-- Needed by `Node<Behind<R>>::raise`, `Node<Behind<R>>::stop`, `Role::above` and `raise`; crates floored and floored_groups.
 use Rattle.std.proofs.Common.{◌≡◌, ◌∙◌, inl, inr, ℕ, true, List, [], Option, Some, None, refl, sym, ap, subst, drop}
 use Rattle.std.specs.Prelude.{Result, Ok, Err}
 use Rattle.xid.specs.Places.{Place, IsPlace}

@@ -1,4 +1,5 @@
 -- The rows that stand behind a snapshot.
+-- Needed by `take_rows`, `take_snapshot` and the code of `snapshots`; Loading.
 use Rattle.std.proofs.Common.{◌≡◌, ◌∙◌, ℕ, suc, ◌-◌, Bool, true, false, ◌&&◌, List, [], ◌∷◌, ◌++◌, refl, sym, ap, subst}
 use Rattle.std.proofs.Common.{append_assoc, append-nil, inl, inr}
 use Rattle.std.specs.Prelude.{◌⊎◌, map, Option, Some, length, slice_get}

@@ -1,4 +1,5 @@
 -- A record that was made shorter says the same.
+-- Needed by `Node::compact`, `compact` and `shorter`.
 use Rattle.std.proofs.Common.{◌≡◌, ◌∙◌, ℕ, false, List, [], ◌++◌, Option, Some, None, refl, sym, ap, subst, inl, inr, Vec, Global}
 use Rattle.std.specs.Prelude.{◌⊎◌, Result, Ok, Err, IfOk}
 use Rattle.xid.specs.declared.refusals.Refusal.{Refusal}

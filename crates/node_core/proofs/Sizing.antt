@@ -1,4 +1,5 @@
 -- The sizes of a cluster within the limits.
+-- Needed by `Node::open`; crate udp_run.
 use Rattle.std.proofs.Common.{◌≡◌, ℕ, ◌<◌, ◌≤◌, true, ◌&&◌, ◌||◌, ◌==◌, sym, subst, length, arith}
 use Rattle.std.specs.Prelude.{nat_lt, nat_le}
 use Rattle.std.specs.List.{list_all}

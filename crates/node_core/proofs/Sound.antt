@@ -1,4 +1,5 @@
 -- A node that stood for a node of the machine still does.
+-- Needed by `Node::step_into`; Grouped.
 use Rattle.std.proofs.Common.{◌≡◌, ℕ, true, Option, Some, None, refl, sym, ap, subst}
 use Rattle.stable_record.specs.declared.fact.FactKind.{FactKind as Fact}
 use Rattle.stable_record.specs.Held.{Held}

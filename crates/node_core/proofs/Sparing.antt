@@ -1,4 +1,5 @@
 -- Inputs that want no memory and store nothing are handled without a fault: what was decided is carried out, and the node stays up.
+-- Needed by `accept`, `hear` and `serve`.
 use Rattle.std.proofs.Common.{◌≡◌, ◌∙◌, ℕ, true, List, None, refl, sym, ap}
 use Rattle.wire.specs.Grammar.{Spells}
 use Rattle.wire.specs.declared.message.Kind.{Kind}

@@ -1,4 +1,5 @@
 -- What the bytes of a record say, with a snapshot in front or without one.
+-- Needed by `read_role`; Lengths, Loading, Restarting and Shortening; crates groups and floored_groups.
 use Rattle.std.proofs.Common.{◌≡◌, ◌∙◌, ℕ, ◌+◌, ◌-◌, ◌≤◌, true, false, List, [], ◌∷◌, ◌++◌, length, drop, refl, sym, ap}
 use Rattle.std.proofs.Common.{subst, length-append, arith}
 use Rattle.std.specs.Prelude.{map, unwrap_or, Option, Some, None, Result, Ok, Err}

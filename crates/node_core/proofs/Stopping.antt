@@ -1,4 +1,5 @@
 -- What a stopped append comes to.
+-- Needed by `carry_out`.
 use Rattle.std.proofs.Common.{◌≡◌, ◌∙◌, List, Option, Some, None, inl, inr, sym, ap, subst}
 use Rattle.std.specs.Prelude.{◌⊎◌, if◌then◌else◌, Err}
 use Rattle.xid.specs.declared.refusals.Refusal.TheVariants.{RecordFault}

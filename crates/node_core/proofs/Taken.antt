@@ -1,4 +1,5 @@
 -- What is handed to a node, taken one by one.
+-- Needed by `gather` and `store_one_by_one`.
 use Rattle.std.proofs.Common.{◌≡◌, ◌∙◌, ◌++◌, ◌∷◌, [], ◌+◌, ◌<◌, ◌≤◌, ℕ, suc, set, get_or, List, map, take, drop, length, sym, ap, subst}
 use Rattle.std.proofs.Common.{arith}
 use Rattle.std.proofs.lemmas.List.{take_more, take_more_set, take_all, map-append}

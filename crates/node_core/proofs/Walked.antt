@@ -1,4 +1,5 @@
 -- Inputs that are handled one after another, each with its own append, to the one at which a tear stops it.
+-- Needed by `store_one_by_one`.
 use Rattle.std.proofs.Common.{◌≡◌, ◌∙◌, ℕ, ◌<◌, Bool, true, false, List, [], ◌∷◌, ◌++◌, length, Option, Some, None, inl, inr, refl, sym, ap}
 use Rattle.std.proofs.Common.{subst, arith}
 use Rattle.std.specs.Prelude.{is_some, Err}

@@ -1,4 +1,5 @@
 -- A buffer whose front was filled.
+-- Needed by `copy`; crate signed_port.
 use Rattle.std.proofs.Common.{◌≡◌, ◌∙◌, ℕ, ◌≤◌, List, ◌++◌, length, take, ap, min, arith}
 use Rattle.std.proofs.lemmas.List.{take-append-le, take_all, take_min, length-take-le}
 

@@ -1,4 +1,5 @@
 -- What a member stands for, and that it stays one of its cluster.
+-- Needed by 12 functions of this crate; Raising.
 use Rattle.std.proofs.Common.{◌≡◌, ◌∙◌, ◌⊎◌, inl, inr, Bool, true, false, List, length, Option, Some, None, refl, sym, ap, subst}
 use Rattle.std.specs.Prelude.{is_none, replicate, MatchBool, Result, Ok, Err}
 use Rattle.std.specs.Option.{option_map_or}

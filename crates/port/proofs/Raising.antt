@@ -1,4 +1,5 @@
 -- A resource manager that was asked at its port to raise its floor.
+-- Needed by `raise`.
 use Rattle.std.proofs.Common.{◌≡◌, ◌∙◌, ℕ, true, [], Option, refl, sym, ap, subst}
 use Rattle.std.specs.Prelude.{is_some, Result, Ok, Err}
 use Rattle.xid.specs.Places.{Place}

@@ -1,4 +1,5 @@
 -- Datagrams that go out by a port, one send after another.
+-- Needed by 7 functions of this crate.
 use Rattle.std.proofs.Common.{◌≡◌, ◌∙◌, ℕ, ◌+◌, ◌<◌, List, [], ◌∷◌, ◌++◌, length, map, take, get_or, refl, sym, ap, subst, Result}
 use Rattle.std.proofs.Common.{None}
 use Rattle.std.specs.List.{flat_map}

@@ -1,4 +1,5 @@
 -- How what a member is handed is set aside, grouped, and taken.
+-- Needed by 9 functions of this crate; crate floored_groups.
 use Rattle.std.proofs.Common.{◌≡◌, ◌∙◌, ℕ, ◌+◌, ◌<◌, ◌≤◌, Bool, true, false, ◌&&◌, not, List, [], ◌∷◌, ◌++◌, length, map, take, drop}
 use Rattle.std.proofs.Common.{zero, suc, get_or, set, inl, Option, Some, None, refl, sym, ap, subst, arith}
 use Rattle.std.specs.Prelude.{◌||◌, if◌then◌else◌, is_some, MatchBool, Result, Ok, Err}

@@ -1,4 +1,5 @@
 -- In which state of its branch a call is done.
+-- Needed by crates resource_manager, history, cluster, audit and cluster_run.
 use Rattle.std.proofs.Common.{◌≡◌, ◌≢◌, Bool, true, false, if◌then◌else◌, List, Option, Some, None, refl, ap}
 use Rattle.std.proofs.lemmas.Bool.{both_ways}
 use Rattle.xid.specs.declared.codes.XaCode.TheVariants as code

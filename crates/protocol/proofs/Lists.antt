@@ -1,4 +1,5 @@
 -- What is among a list, and what lists that are mapped, filtered and searched have.
+-- Needed by 9 files here; 18 crates above.
 use Rattle.std.proofs.Common.{◌≡◌, ◌⊎◌, inl, inr, ◌∙◌, Bool, true, false, List, [], ◌∷◌, ◌++◌, Option, Some, None, unwrap_or}
 use Rattle.std.proofs.Common.{refl, sym, ap, subst, arith}
 use Rattle.std.specs.Prelude.{map, filter, filter_map, find, Contains}

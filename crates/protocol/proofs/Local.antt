@@ -1,4 +1,5 @@
 -- Rules look at what is stored of their own transaction alone.
+-- Needed by Kept.Playing; crates floors and forgetting.
 use Rattle.std.proofs.Common.{◌≡◌, ℕ, Bool, false, List, Option, Some, None, refl}
 use Rattle.std.specs.Option.{option_map_or}
 use Rattle.xid.specs.Names.{XidParts}

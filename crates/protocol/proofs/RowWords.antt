@@ -1,4 +1,5 @@
 -- Words for worked runs: the names and transactions in them, and what a run shows of itself.
+-- Needed by 20 files here; crate history.
 use Rattle.std.specs.Prelude.{ℕ, true, false, List, [], ◌∷◌, map, Option, Some}
 use Rattle.xid.specs.Names.{XidParts}
 use Rattle.xid.specs.Transactions.{TxParts}

@@ -1,4 +1,5 @@
 -- The test of instances is equality.
+-- Needed by crates safety, progress, commits and acceptor.
 use Rattle.std.proofs.Common.{◌≡◌, ℕ, true, ◌==◌, eq-eqb, refl}
 use Rattle.std.specs.Cmp.{first_so, second_so}
 use Rattle.std.proofs.lemmas.Bool.{eqb-true, and_from}

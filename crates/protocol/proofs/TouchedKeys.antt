@@ -1,4 +1,5 @@
 -- What touching a key makes of the touched keys of a branch of the machine, which stand ascending.
+-- Needed by Manager.Apart and Manager.Keys; crates safety, branch_table, resource_manager and history.
 use Rattle.std.proofs.Common.{◌≡◌, ◌∙◌, ℕ, suc, ◌+◌, Bool, true, false, ◌||◌, cond, List, [], ◌∷◌, length, refl, sym, ap, subst, arith}
 use Rattle.std.specs.Cmp.Lexicographic.{slice_cmp}
 use Rattle.std.specs.Ordering.{nat_cmp, is_lt, is_eq, ordering_reverse}

@@ -1,4 +1,5 @@
 -- What is left of a resource manager above a floor stands for what is left of its facts.
+-- Needed by `ResourceManager::above`; crate forgetting.
 use Rattle.std.proofs.Common.{◌≡◌, ◌∙◌, inl, inr, ℕ, Bool, true, false, not, ◌||◌, if◌then◌else◌, List, [], ◌∷◌, Some, refl, sym, ap}
 use Rattle.std.proofs.Common.{subst, fold}
 use Rattle.std.specs.Prelude.{filter, map}

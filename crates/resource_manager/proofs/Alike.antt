@@ -1,4 +1,5 @@
 -- Facts that say the same have the same shorter record, also once more facts are played after both.
+-- Needed by Shortened.
 use Rattle.std.proofs.Common.{◌≡◌, ◌∙◌, ℕ, Bool, true, false, ◌||◌, List, [], ◌∷◌, ◌++◌, Option, Some, None, refl, sym, ap, subst}
 use Rattle.std.proofs.Common.{filter_map, map}
 use Rattle.std.specs.Prelude.{is_some}

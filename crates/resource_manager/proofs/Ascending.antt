@@ -1,4 +1,5 @@
 -- The rows of a table ascend by their keys, and stay as they are when they are put in order again.
+-- Needed by Above and Shortened.
 use Rattle.std.proofs.Common.{◌≡◌, ◌∙◌, ℕ, Bool, true, false, not, cond, List, [], ◌∷◌, ◌++◌, refl, sym, ap, subst, append-nil}
 use Rattle.std.proofs.Common.{append_assoc}
 use Rattle.std.specs.Prelude.{filter, filter_map, fold}

@@ -1,4 +1,5 @@
 -- The transactions of facts, in the order of their first facts.
+-- Needed by Above, Kept, Lengths, Pieces, Same and Standing.
 use Rattle.std.proofs.Common.{◌≡◌, ◌∙◌, ℕ, Bool, true, false, not, ◌||◌, cond, List, [], ◌∷◌, ◌++◌, refl, sym, ap, subst, inl, inr}
 use Rattle.std.specs.Prelude.{fold}
 use Rattle.std.specs.List.{list_any}

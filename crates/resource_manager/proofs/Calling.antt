@@ -1,4 +1,5 @@
 -- A client call of a resource manager is the machine's.
+-- Needed by 6 functions of this crate; crate cluster_run.
 use Rattle.std.proofs.Common.{◌≡◌, ◌≢◌, ◌∙◌, inl, inr, ℕ, Bool, true, false, not, ◌&&◌, if◌then◌else◌, cond, List, [], ◌∷◌, ◌++◌, map}
 use Rattle.std.proofs.Common.{Option, Some, None, refl, sym, ap, subst}
 use Rattle.std.specs.Prelude.{filter_map, option_map, Result, Ok, Err, IfOk}

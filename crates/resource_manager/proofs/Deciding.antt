@@ -1,4 +1,5 @@
 -- What a resource manager decides is what the machine's rules say.
+-- Needed by 10 functions of this crate; Recovering.
 use Rattle.std.proofs.Common.{◌≡◌, ◌∙◌, ℕ, Bool, true, false, ◌||◌, ◌&&◌, if◌then◌else◌, List, [], ◌∷◌, ◌++◌, Option}
 use Rattle.std.proofs.Common.{Some, None, Result, Ok, Err, is_some, refl, sym, ap, subst}
 use Rattle.std.specs.Prelude.{IfOk}

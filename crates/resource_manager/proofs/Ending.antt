@@ -1,4 +1,5 @@
 -- What playing the end of a branch makes of a resource manager: a vote aborted, an abort, a commit.
+-- Needed by Played.
 use Rattle.std.proofs.Common.{◌≡◌, ◌∙◌, inl, inr, ℕ, Bool, true, false, ◌||◌, ◌&&◌, if◌then◌else◌, List, [], ◌∷◌, ◌++◌}
 use Rattle.std.proofs.Common.{Option, Some, None, refl, sym, ap, subst}
 use Rattle.std.specs.Option.{option_map_or}

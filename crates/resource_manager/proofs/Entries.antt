@@ -1,4 +1,5 @@
 -- The entries that a resource manager writes, one by one.
+-- Needed by `ResourceManager::frames`, `ResourceManager::prepared` and `write_one`; Alike, Floors and Shortened.
 use Rattle.std.proofs.Common.{◌≡◌, ◌∙◌, ℕ, zero, suc, ◌<◌, true, ◌&&◌, nat_lt, nat_le, List, [], ◌∷◌, ◌++◌, Option, Some, None, refl, sym}
 use Rattle.std.proofs.Common.{ap}
 use Rattle.std.proofs.Common.{◌+◌, length, get_or, take, append_assoc, arith}

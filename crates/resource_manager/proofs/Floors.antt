@@ -1,4 +1,5 @@
 -- What is left of a resource manager's courses above a floor, one by one, and whether one of its branches is below.
+-- Needed by `ResourceManager::has_branch_below` and `left_of`; crate forgetting.
 use Rattle.std.proofs.Common.{◌≡◌, ◌∙◌, inl, inr, ℕ, suc, ◌+◌, ◌<◌, ◌≤◌, Bool, true, false, not, ◌&&◌, ◌||◌, if◌then◌else◌, List, [], ◌∷◌}
 use Rattle.std.proofs.Common.{◌++◌, length, get_or, take, drop, append_assoc, append-nil}
 use Rattle.std.proofs.Common.{Option, Some, None, is_some, refl, sym, ap, subst, arith}

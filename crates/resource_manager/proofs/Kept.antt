@@ -1,4 +1,5 @@
 -- The facts that a shorter record stands for play, and lead to the same table, spent names and prepared branches.
+-- Needed by Above, Leaving, Same and Shortened; crate forgetting.
 use Rattle.std.proofs.Common.{◌≡◌, ◌∙◌, ℕ, Bool, true, false, not, ◌||◌, ◌&&◌, cond, List, [], ◌∷◌, ◌++◌, Option, Some, None, refl, sym, ap}
 use Rattle.std.proofs.Common.{subst, inl, inr, is_none, append-nil, append_assoc}
 use Rattle.std.specs.Prelude.{filter, filter_map, fold}

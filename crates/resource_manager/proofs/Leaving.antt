@@ -1,4 +1,5 @@
 -- What is left of a resource manager's facts without the writes of what is committed says what they say.
+-- Needed by Above; crates forgetting and node_core.
 use Rattle.std.proofs.Common.{◌≡◌, ◌⊎◌, inl, inr, ◌∙◌, ℕ, Bool, true, false, not, ◌&&◌, ◌||◌, if◌then◌else◌, List, [], ◌∷◌, ◌++◌}
 use Rattle.std.proofs.Common.{Option, Some, None, refl, sym, ap, subst, unwrap_or, fold}
 use Rattle.std.specs.Prelude.{map, filter, filter_map, find, option_map}

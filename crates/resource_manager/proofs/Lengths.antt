@@ -1,4 +1,5 @@
 -- What a resource manager writes of transactions is no longer than the entries that it stands in the place of.
+-- Needed by Alike and Shortened; crate node_core.
 use Rattle.std.proofs.Common.{◌≡◌, ◌∙◌, ℕ, ◌+◌, ◌≤◌, Bool, true, false, ◌||◌, List, [], ◌∷◌, ◌++◌, length, map, sum, Option, Some, None}
 use Rattle.std.proofs.Common.{refl, sym, ap, subst, append_assoc, append-nil, arith, filter_map}
 use Rattle.std.specs.Prelude.{filter, find, is_some, if◌then◌else◌}

@@ -1,4 +1,5 @@
 -- What one more fact says, beside those before.
+-- Needed by 7 files here; crates forgetting, node_core and cluster.
 use Rattle.std.proofs.Common.{◌≡◌, ◌∙◌, inl, inr, ℕ, Bool, true, false, not, ◌||◌, ◌&&◌, cond, List, [], ◌∷◌, ◌++◌, Option, Some}
 use Rattle.std.proofs.Common.{None, refl, sym, ap, subst, filter, filter_map, unwrap_or}
 use Rattle.std.specs.Prelude.{find, fold}

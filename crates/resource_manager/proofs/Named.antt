@@ -1,4 +1,5 @@
 -- Branches by name.
+-- Needed by 7 files here.
 use Rattle.std.proofs.Common.{◌≡◌, ◌≢◌, ◌∙◌, inl, inr, Bool, true, false, ◌&&◌, cond, List, [], ◌∷◌, Option, Some, None}
 use Rattle.std.proofs.Common.{refl, sym, ap, subst, unwrap_or}
 use Rattle.std.specs.Prelude.{find, option_map}

@@ -1,4 +1,5 @@
 -- How far transactions have come, by number: after one more is seen, and after one has come further.
+-- Needed by `Courses::see` and `Courses::set`.
 use Rattle.std.proofs.Common.{◌≡◌, ◌∙◌, ℕ, zero, suc, ◌+◌, ◌<◌, true, nat_lt, cond, List, [], ◌∷◌, ◌++◌, length, get_or, set, refl, sym, ap}
 use Rattle.std.proofs.Common.{subst}
 use Rattle.std.proofs.Common.{Option, Some, arith}

@@ -1,4 +1,5 @@
 -- The transactions that a resource manager is prepared in are those that the facts leave so.
+-- Needed by `ResourceManager::open_transactions`.
 use Rattle.std.proofs.Common.{◌≡◌, ◌∙◌, ℕ, Bool, true, false, List, [], ◌∷◌, Some, None, refl, sym, ap}
 use Rattle.std.specs.Prelude.{filter, filter_map, if◌then◌else◌, Result, Ok, Err, IfOk}
 use Rattle.std.specs.List.{cons_option}

@@ -1,4 +1,5 @@
 -- What the facts store that the entries of a shorter record stand for.
+-- Needed by Kept, Same and Shortened; crate forgetting.
 use Rattle.std.proofs.Common.{◌≡◌, ◌∙◌, Bool, true, false, ◌||◌, cond, List, [], ◌∷◌, ◌++◌, Option, Some, None, refl, sym, ap, subst}
 use Rattle.std.proofs.Common.{append-nil, append_assoc, inl, inr}
 use Rattle.std.specs.Prelude.{filter_map, fold}

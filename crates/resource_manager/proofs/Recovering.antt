@@ -1,4 +1,5 @@
 -- The names of the prepared branches, ascending, are those of the machine.
+-- Needed by `ResourceManager::recover`.
 use Rattle.std.proofs.Common.{◌≡◌, ◌⊎◌, ◌∙◌, inl, inr, ℕ, ◌+◌, suc, get_or, Bool, true, false, List, [], ◌∷◌}
 use Rattle.std.proofs.Common.{Option, Some, filter, refl, sym, ap, subst, arith}
 use Rattle.std.specs.Prelude.{filter_map, fold, Result, Ok, Err, IfOk}

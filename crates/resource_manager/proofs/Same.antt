@@ -1,4 +1,5 @@
 -- Facts that lead to the same say the same, whatever is played after them.
+-- Needed by Alike and Shortened.
 use Rattle.std.proofs.Common.{◌≡◌, ◌∙◌, ℕ, Bool, true, false, not, ◌&&◌, List, [], ◌∷◌, ◌++◌, refl, sym, ap, subst}
 use Rattle.std.proofs.Common.{append-nil, append_assoc, cond, inl, inr}
 use Rattle.std.specs.Prelude.{filter, filter_map, fold}

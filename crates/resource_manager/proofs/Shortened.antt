@@ -1,4 +1,5 @@
 -- What a resource manager writes in place of its record says what the record says.
+-- Needed by Frames; crates node_core and floored_groups.
 use Rattle.std.proofs.Common.{◌≡◌, ◌∙◌, ℕ, ◌≤◌, suc, zero, true, ◌&&◌, List, [], ◌∷◌, ◌++◌, Option, Some, None, refl, sym, ap, subst, map}
 use Rattle.std.specs.Prelude.{filter_map, replicate, slice_get, unwrap_or}
 use Rattle.std.specs.List.{cons_option, list_all}

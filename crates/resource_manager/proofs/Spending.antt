@@ -1,4 +1,5 @@
 -- The names that are spent after one more.
+-- Needed by `SpentNames::spend`.
 use Rattle.std.proofs.Common.{◌≡◌, ◌∙◌, Bool, true, false, ◌||◌, cond, List, Result, Ok, Err}
 use Rattle.std.specs.Prelude.{OnOk}
 use Rattle.std.specs.Result.{IsOk}

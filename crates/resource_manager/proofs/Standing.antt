@@ -1,4 +1,5 @@
 -- A resource manager stands for the facts with one more.
+-- Needed by 9 files here; crate forgetting.
 use Rattle.std.proofs.Common.{◌≡◌, ◌≢◌, ◌∙◌, inl, inr, ℕ, Bool, true, false, not, ◌||◌, List, [], ◌∷◌, ◌++◌, Option, Some, None}
 use Rattle.std.proofs.Common.{refl, sym, ap, subst, unwrap_or}
 use Rattle.std.specs.Prelude.{filter_map, option_map}

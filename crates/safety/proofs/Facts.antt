@@ -1,4 +1,5 @@
 -- What all roles say of facts and of messages.
+-- Needed by `ballots_are_owned`; 14 files here; crates progress, commits and floors.
 use Rattle.std.proofs.Common.{◌≡◌, ℕ, ◌≤◌, Bool, true, if◌then◌else◌, List, ◌++◌, Option, Some, None, refl, sym, ap, subst}
 use Rattle.std.specs.Prelude.{IsTrue, option_to_list}
 use Rattle.std.specs.List.{flat_map}

@@ -1,4 +1,5 @@
 -- The greatest of the numbers that elements give is 0, or some element gives it.
+-- Needed by Acceptor.Slots.
 use Rattle.std.proofs.Common.{◌≡◌, ◌⊎◌, inl, inr, ℕ, List, Option}
 use Rattle.std.specs.Prelude.{filter_map}
 use Rattle.ballot.specs.Greatest.{greatest}

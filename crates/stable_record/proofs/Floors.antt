@@ -1,4 +1,5 @@
 -- A floor's frame is taken again, what is taken was spelled, and no entry's frame is one.
+-- Needed by 7 functions of this crate; Known; crates floored, cluster and floored_groups.
 use Rattle.std.proofs.Common.{◌≡◌, ◌∙◌, ℕ, zero, suc, ◌+◌, ◌<◌, ◌==◌, true, eqb-true, List, [], ◌∷◌, ◌++◌}
 use Rattle.std.proofs.Common.{length, take}
 use Rattle.std.proofs.Common.{Option, Some, None, inl, refl, sym, ap, subst, append_assoc, arith}

@@ -1,4 +1,5 @@
 -- What the calls of a record make of what stands behind a floor that is known, and of a floor that was to rise.
+-- Needed by `Behind::learn`, `Behind::open`, `Behind::raise`, `BehindRecord::cut` and `BehindRecord::replace`; crate node_core.
 use Rattle.std.proofs.Common.{◌≡◌, ◌∙◌, ℕ, zero, suc, ◌+◌, ◌⊎◌, inl, inr, Bool, true, false, List, [], ◌∷◌, ◌++◌, length, take, drop}
 use Rattle.std.proofs.Common.{Option, Some, refl, sym, ap, subst, arith}
 use Rattle.std.specs.Prelude.{Result, Ok, Err}

@@ -1,4 +1,5 @@
 -- How long entries are: what a frame's length is, and that no body is longer than one may be.
+-- Needed by `Entry::write` and `frame_length_is_exact`; Floors, Framed and Written; 4 crates above.
 use Rattle.std.proofs.Common.{◌≡◌, ◌∙◌, ℕ, suc, ◌+◌, ◌*◌, ◌≤◌, List, [], ◌∷◌, ◌++◌, length, map, sum, refl, ap, arith}
 use Rattle.std.specs.List.{flat_map, All, AllByRecursion}
 use Rattle.std.proofs.lemmas.List.{length-append}

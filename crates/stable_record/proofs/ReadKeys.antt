@@ -1,4 +1,5 @@
 -- Reading touched keys one after the other stops where one isn't read.
+-- Needed by `take_touched_keys`.
 use Rattle.std.proofs.Common.{◌≡◌, ℕ, ◌-◌, ◌<◌, List, Option, None, ◌⊎◌, inl, inr}
 use Rattle.xid.specs.declared.refusals.Refusal.{Refusal}
 use Rattle.xid.specs.declared.refusals.Refusal.TheVariants.{Damaged, NoMemory}

@@ -1,4 +1,5 @@
 -- What is taken was spelled, and its ranges and relations hold: each field of an entry from the front of bytes.
+-- Needed by SpelledEntries.
 use Rattle.std.proofs.Common.{◌≡◌, ℕ, zero, suc, ◌^◌, ◌<◌, ◌≤◌, Bool, true, false, cond, eqb, ltb, List, [], ◌∷◌, ◌++◌, length}
 use Rattle.std.proofs.Common.{take, drop, Some, None, refl, sym, subst, ap, arith, eqb-true}
 use Rattle.std.specs.List.{flat_map, AllByRecursion}

@@ -1,4 +1,5 @@
 -- What is taken was spelled: facts, the other entries, and the body of a frame.
+-- Needed by `view_about`; Framed.
 use Rattle.std.proofs.Common.{◌≡◌, ℕ, ◌^◌, ◌<◌, ◌==◌, Bool, true, false, cond, List, [], ◌∷◌, ◌++◌}
 use Rattle.std.proofs.Common.{Option, Some, None, refl, sym, subst, ap, ◌∙◌, append_assoc, arith, eqb-true}
 use Rattle.std.proofs.lemmas.List.{append-nil}

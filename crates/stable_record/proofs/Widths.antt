@@ -1,4 +1,5 @@
 -- Numbers of instances fit their width in a record.
+-- Needed by crate safety.
 use Rattle.std.proofs.Common.{ℕ, arith}
 use Rattle.xid.specs.Transactions.{TxParts}
 use Rattle.wire.specs.Messages.{IsInstance}

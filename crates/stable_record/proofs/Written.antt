@@ -1,4 +1,5 @@
 -- What is written at the end, one part after the other, is a frame; and frames one after the other.
+-- Needed by `write_past` and `write_row`; crates acceptor, leader, resource_manager and node_core.
 use Rattle.std.proofs.Common.{◌≡◌, ◌∙◌, inl, ℕ, ◌+◌, List, [], ◌∷◌, ◌++◌, length, refl, sym, ap, subst, append_assoc, append-nil, arith}
 use Rattle.std.specs.Prelude.{map}
 use Rattle.std.specs.List.{flat_map}

@@ -1,4 +1,5 @@
 -- Of the transactions that things are about, those that pass a test come in the order in which they come of the things that are about them.
+-- Needed by Before; crates acceptor, leader and resource_manager.
 use Rattle.std.proofs.Common.{◌≡◌, ◌∙◌, Bool, true, false, ◌||◌, cond, List, [], ◌∷◌, ◌++◌, refl, sym, ap, subst}
 use Rattle.std.specs.Prelude.{filter, fold}
 use Rattle.std.specs.List.{list_any}

@@ -1,4 +1,5 @@
 -- Of transactions no two of which are the same, none stands among those before it.
+-- Needed by crates acceptor, leader and audit.
 use Rattle.std.proofs.Common.{◌≡◌, ◌∙◌, ℕ, zero, suc, ◌<◌, Bool, true, false, not, ◌||◌, List, [], ◌∷◌, length, get_or, take}
 use Rattle.std.proofs.Common.{sym, refl, subst, arith}
 use Rattle.std.specs.Prelude.{filter}

@@ -1,4 +1,5 @@
 -- Bytes that stand one after another in one list.
+-- Needed by `Spellings::get`, `Spellings::len`, `Spellings::pop`, `Spellings::push` and `Transactions::insert_view`.
 use Rattle.std.proofs.Common.{◌≡◌, ◌∙◌, ℕ, zero, suc, ◌+◌, ◌-◌, ◌≤◌, List, [], ◌∷◌, ◌++◌, length, take, drop, get_or, slice_get}
 use Rattle.std.proofs.Common.{Option, Some, None, refl, sym, ap, subst, arith}
 use Rattle.std.specs.Prelude.{MatchOption, slice_range}

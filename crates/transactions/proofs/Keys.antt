@@ -1,4 +1,5 @@
 -- The spelled bytes that are kept, and the transactions that are seen of them.
+-- Needed by 9 functions of this crate; Before and Sought; crates acceptor, leader, resource_manager and audit.
 use Rattle.std.proofs.Common.{◌≡◌, ◌∙◌, ℕ, zero, suc, ◌+◌, ◌<◌, ◌≤◌, Bool, true, false, not, cond, ◌||◌, ltb, List, [], ◌∷◌, ◌++◌, length}
 use Rattle.std.proofs.Common.{get_or, map, slice_get, Option, Some, None, refl, sym, ap, subst, arith}
 use Rattle.std.specs.Prelude.{MatchOption, position, Result, Ok, Err, IfErr}

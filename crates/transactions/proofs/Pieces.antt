@@ -1,4 +1,5 @@
 -- Lists that are put together piece by piece, each piece that of one of some things.
+-- Needed by crates acceptor and leader.
 use Rattle.std.proofs.Common.{◌≡◌, ◌∙◌, ℕ, suc, ◌+◌, ◌<◌, List, ◌++◌, length, get_or, drop, sym, ap, append_assoc, arith}
 use Rattle.std.specs.List.{flat_map}
 use Rattle.std.proofs.Math.Seq.{drop-cons}

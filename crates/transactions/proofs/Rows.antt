@@ -1,4 +1,5 @@
 -- Rows kept by the numbers of transactions: one more at the end, and another in the place of one.
+-- Needed by Places; crates acceptor, leader, resource_manager and audit.
 use Rattle.std.proofs.Common.{◌≡◌, ◌∙◌, ℕ, zero, suc, ◌+◌, ◌<◌, ◌≤◌, Bool, true, false, not, cond, ltb, List, [], ◌∷◌, ◌++◌}
 use Rattle.std.proofs.Common.{length, get_or, set, refl, sym, ap, arith}
 use Rattle.std.specs.Prelude.{if◌then◌else◌}

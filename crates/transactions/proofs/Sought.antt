@@ -1,4 +1,5 @@
 -- Where a transaction stands, by what is found of its bytes.
+-- Needed by `Transactions::insert_view`.
 use Rattle.std.proofs.Common.{◌≡◌, ◌∙◌, ℕ, List, Option}
 use Rattle.std.specs.Prelude.{position}
 use Rattle.std.specs.List.{All}

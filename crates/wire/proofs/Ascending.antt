@@ -1,4 +1,5 @@
 -- Numbers that ascend strictly.
+-- Needed by `are_items`; Bundles, CountedItems, DecodingLemmas, Ends, Instances and Walks; crate audit.
 use Rattle.std.proofs.Common.{◌≡◌, ℕ, zero, suc, ◌+◌, ◌-◌, ◌<◌, ◌≤◌, List, [], ◌∷◌, length, get_or, map, slice_index, subst, arith}
 use Rattle.std.specs.List.Sorted.{IsStrictlyIncreasing}
 use Rattle.std.proofs.lemmas.List.{get_or-map, length-map}

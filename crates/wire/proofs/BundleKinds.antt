@@ -1,4 +1,5 @@
 -- The bundles that bytes spell, by what was passed over.
+-- Needed by `b1b_of` and `b2b_of`; crate stable_record.
 use Rattle.std.proofs.Common.{◌≡◌, ◌==◌, ℕ, zero, suc, ◌<◌, ◌^◌, Bool, true, false}
 use Rattle.std.proofs.Common.{cond, ltb, List, [], ◌∷◌, length, map, Option, Some, None, IsTrue}
 use Rattle.std.proofs.Common.{refl, sym, ap, subst, ◌∙◌, arith}

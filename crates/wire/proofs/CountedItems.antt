@@ -1,4 +1,5 @@
 -- Passing over the items of a bundle.
+-- Needed by `are_counted` and `take_passed`; BundleKinds; crate stable_record.
 use Rattle.std.proofs.Common.{◌≡◌, ℕ, zero, suc, ◌+◌, ◌-◌, ◌<◌, ◌≤◌, ◌&&◌, ◌==◌}
 use Rattle.std.proofs.Common.{Bool, true, false, cond, ltb, leb, List, [], ◌∷◌, length, map}
 use Rattle.std.proofs.Common.{Option, Some, None, refl, sym, ap, subst, ◌∙◌, arith}

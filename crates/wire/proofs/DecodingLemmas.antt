@@ -1,4 +1,5 @@
 -- The tests of decoding decide the facts of the grammar, and so it finds what is spelled.
+-- Needed by `message_at_is_exact`; BundleKinds, Decoded and TakenTx; 7 crates above.
 use Rattle.std.proofs.Common.{◌≡◌, ℕ, zero, suc, ◌<◌, ◌≤◌, ◌^◌, Bool, true, false, ◌&&◌, cond, ltb, leb, List, [], ◌∷◌, length, Option}
 use Rattle.std.proofs.Common.{Some, None, refl, sym, subst, ◌∙◌, arith, IsTrue}
 use Rattle.std.specs.Prelude.{slice_index}

@@ -1,4 +1,5 @@
 -- Where a transaction at the front of bytes ends.
+-- Needed by `SpelledTx::take` and `after_branches`.
 use Rattle.std.proofs.Common.{◌≡◌, ℕ, zero, suc, ◌+◌, ◌-◌, ◌<◌, ◌≤◌, false, ltb, leb, eqb, List, [], ◌∷◌, ◌++◌, length, take}
 use Rattle.std.proofs.Common.{Option, Some, None, refl, sym, ap, subst, ◌∙◌, append_assoc, arith, slice_index}
 use Rattle.std.specs.List.{flat_map, All, AllByRecursion}

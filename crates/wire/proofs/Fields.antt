@@ -1,4 +1,5 @@
 -- What is spelled is taken again: each field from the front of bytes, whatever follows it.
+-- Needed by `view_of`; 8 files here; crates stable_record, transactions, floored, net_script, run_traces and serving.
 use Rattle.std.proofs.Common.{◌≡◌, ℕ, suc, ◌^◌, ◌<◌, ◌≤◌, false, ltb, List, [], ◌∷◌, ◌++◌, length, Option, Some, None, map, refl, sym}
 use Rattle.std.proofs.Common.{ap, ◌∙◌, append_assoc, arith}
 use Rattle.std.specs.List.{flat_map, All, AllByRecursion}

@@ -1,4 +1,5 @@
 -- A notice is taken again, what is taken was spelled, and no message is one.
+-- Needed by `notice_at_is_exact` and `notices_are_no_messages`; TakenTx; crate stable_record.
 use Rattle.std.proofs.Common.{◌≡◌, ◌∙◌, ℕ, suc, ◌==◌, Bool, true, false, cond, eqb-true, List, [], ◌∷◌, ◌++◌, Option, Some, None}
 use Rattle.std.proofs.Common.{refl, sym, ap, subst}
 use Rattle.std.proofs.lemmas.List.{append-nil}

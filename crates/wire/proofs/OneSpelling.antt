@@ -1,4 +1,5 @@
 -- The laws of the grammar: no spelling begins another, and a spelling has one message.
+-- Needed by `spelling_laws` and `view_of`; crates safety, node_core and cluster.
 use Rattle.std.proofs.Common.{◌≡◌, ℕ, List, [], ◌∷◌, ◌++◌, refl, sym, ap, ◌∙◌, append_assoc}
 use Rattle.std.proofs.lemmas.List.{append-nil}
 use Rattle.wire.specs.declared.message.Kind.{Kind}

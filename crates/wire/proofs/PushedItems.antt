@@ -1,4 +1,5 @@
 -- An item stored at the count of an array of items.
+-- Needed by `Items::push`.
 use Rattle.std.proofs.Common.{◌≡◌, ℕ, zero, suc, ◌+◌, ◌-◌, ◌<◌, List, [], ◌∷◌, drop, slice_set, ap, ◌∙◌, arith, sym, refl}
 use Rattle.std.proofs.lemmas.List.{drop-drop, drop-set-lt, drop-replicate, length-set}
 use Rattle.xid.specs.Limits.{most_branches}

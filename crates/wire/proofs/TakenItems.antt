@@ -1,4 +1,5 @@
 -- The items of a bundle, taken as the code does: the first, and then as many as are left.
+-- Needed by `take_items`.
 use Rattle.std.proofs.Common.{◌≡◌, ◌≢◌, ℕ, zero, suc, ◌-◌, ◌≤◌, false, ltb, List, Option, Some, None, refl, sym, arith}
 use Rattle.std.proofs.Math.Dec.{eqb-suc-zero}
 use Rattle.std.proofs.lemmas.Bool.{le-ltb}

@@ -1,4 +1,5 @@
 -- A transaction at the front of bytes, in a version: what is taken was spelled, and what is spelled is taken again.
+-- Needed by `take_tx` and `view_of`; Ends; crates stable_record, transactions and serving.
 use Rattle.std.proofs.Common.{◌≡◌, ℕ, ◌<◌, ◌≤◌, Bool, true, false, cond, ltb, List, ◌++◌, length, Option, Some, None, refl, subst, ◌∙◌}
 use Rattle.std.proofs.Common.{arith}
 use Rattle.std.specs.List.{All}

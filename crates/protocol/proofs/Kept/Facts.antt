@@ -1,4 +1,5 @@
 -- What is kept of a node's facts says of names that aren't below the floor what all say.
+-- Needed by Kept.Playing; crates safety, floors, acceptor, leader, resource_manager and forgetting.
 use Rattle.std.proofs.Common.{◌≡◌, ◌∙◌, ℕ, Bool, true, false, not, ◌&&◌, ◌||◌, ◌==◌, if◌then◌else◌, List, [], ◌∷◌, Option, Some}
 use Rattle.std.proofs.Common.{None, refl, sym, ap, subst}
 use Rattle.std.specs.Prelude.{filter, filter_map, find, option_map}

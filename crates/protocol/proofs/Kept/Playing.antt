@@ -1,4 +1,5 @@
 -- What a node keeps of its record plays, where the whole does.
+-- Needed by crates floors, acceptor, resource_manager, forgetting and node_core.
 use Rattle.std.proofs.Common.{◌≡◌, ◌∙◌, ℕ, Bool, true, false, not, ◌&&◌, if◌then◌else◌, List, [], ◌∷◌, ◌++◌, Option, refl, sym, ap}
 use Rattle.std.proofs.Common.{subst}
 use Rattle.std.specs.Prelude.{filter, filter_map, find, is_none}

@@ -1,4 +1,5 @@
 -- Branches stay apart, and the fact of each rule of a resource manager plays.
+-- Needed by DoneCalls, Kept.Facts and Manager.Prepared; crates safety, resource_manager, history, forgetting, cluster and run_traces.
 use Rattle.std.proofs.Common.{◌≡◌, ◌≢◌, ◌⊎◌, ℕ, Bool, true, false, not, ◌&&◌, if◌then◌else◌, List, [], ◌∷◌, ◌++◌, map, Option, Some}
 use Rattle.std.proofs.Common.{None, is_some, is_none, unwrap_or}
 use Rattle.std.proofs.Common.{inl, inr, refl, sym, ap, ◌∙◌, subst}

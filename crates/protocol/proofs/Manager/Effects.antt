@@ -1,4 +1,5 @@
 -- What each rule of a resource manager stores and sends.
+-- Needed by Manager.Apart; crates safety, resource_manager, history, cluster and audit.
 use Rattle.std.proofs.Common.{◌≡◌, ℕ, Bool, true, false, if◌then◌else◌, List, [], ◌∷◌, ◌++◌, Option, Some, None, is_some}
 use Rattle.std.proofs.Common.{inl, inr, refl, subst}
 use Rattle.std.specs.Prelude.{IfSome, find, option_map}

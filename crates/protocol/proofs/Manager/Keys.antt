@@ -1,4 +1,5 @@
 -- Names of branches, which of them are spent, and keys that are touched or written.
+-- Needed by Manager.Apart and Manager.Prepared; crates commits, floors, branch_table, resource_manager, history and forgetting.
 use Rattle.std.proofs.Common.{◌≡◌, ◌⊎◌, ℕ, Bool, true, false, ◌||◌, if◌then◌else◌, List, [], ◌∷◌, ◌++◌, Option, Some, None, unwrap_or}
 use Rattle.std.proofs.Common.{inl, inr, refl, sym, ap, ◌∙◌, subst}
 use Rattle.std.specs.Prelude.{filter_map, option_map}

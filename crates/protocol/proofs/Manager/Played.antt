@@ -1,4 +1,5 @@
 -- Facts that played, one after the other.
+-- Needed by Manager.Apart; 8 crates above.
 use Rattle.std.proofs.Common.{◌≡◌, ℕ, true, ◌&&◌, not, List, [], ◌∷◌, ◌++◌, inl, inr, refl, sym, subst, append_assoc, append-nil}
 use Rattle.std.proofs.lemmas.Bool.{and_parts, and_from}
 use Rattle.xid.specs.Transactions.{TxParts, is_participant}

@@ -1,4 +1,5 @@
 -- No key is touched by two branches of a resource manager of which one has written it, and no name has two, prepared ones included.
+-- Needed by crates safety, resource_manager, history, cluster and run_traces.
 use Rattle.std.proofs.Common.{◌≡◌, ◌≢◌, ◌⊎◌, ℕ, true, false, not, ◌&&◌, List, [], ◌∷◌, ◌++◌, Option, Some, None, is_some, unwrap_or}
 use Rattle.std.proofs.Common.{inl, inr, refl, sym, ap, ◌∙◌, subst, append_assoc, append-nil}
 use Rattle.std.specs.Prelude.{filter_map, option_map}

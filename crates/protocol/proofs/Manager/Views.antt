@@ -1,4 +1,5 @@
 -- What the tests and look-ups of a resource manager's facts say: each by the facts that are among them.
+-- Needed by Kept.Facts, Manager.Apart, Manager.Effects and Manager.Prepared; 7 crates above.
 use Rattle.std.proofs.Common.{◌≡◌, Bool, true, false, ◌||◌, if◌then◌else◌, List, [], ◌∷◌, ◌++◌, Option, Some, None, is_some}
 use Rattle.std.proofs.Common.{inl, inr, refl, sym, ap, ◌∙◌, subst}
 use Rattle.std.specs.Bool.{Decides}

@@ -1,4 +1,5 @@
 -- What the rules of an acceptor hand over.
+-- Needed by World.NodeRules and World.Reachable.
 use Rattle.std.proofs.Common.{◌≡◌, inl, inr, ⊎_elim, ◌∙◌, ℕ, ◌≤◌, Bool, true, false, ◌&&◌, ◌||◌, ◌==◌, not, if◌then◌else◌}
 use Rattle.std.proofs.Common.{IsTrue, List, [], ◌∷◌, map, filter, filter_map, Option, Some, None, is_some, refl, sym, ap, subst, nat_lt}
 use Rattle.std.proofs.Common.{nat_le}

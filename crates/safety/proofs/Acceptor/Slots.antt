@@ -1,4 +1,5 @@
 -- A slot is what the facts of an acceptor say.
+-- Needed by `slot_is_greatest`; Acceptor.Effects, WellFormed.Acceptor and World.Reachable.
 use Rattle.std.proofs.Common.{◌≡◌, ◌⊎◌, inl, inr, ⊎_elim, ◌∙◌, ℕ, ◌≤◌, Bool, true, ◌&&◌, not, if◌then◌else◌, List, [], ◌∷◌, ◌++◌, Some}
 use Rattle.std.proofs.Common.{None, refl, sym, ap, subst, arith, append_assoc, nat_le}
 use Rattle.std.specs.Prelude.{Option, IsTrue, filter_map, unwrap_or}

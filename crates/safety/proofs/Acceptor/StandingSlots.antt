@@ -1,4 +1,5 @@
 -- An acceptor's slot: what it keeps of one instance, and what it may promise, report and accept.
+-- Needed by Acceptor.Effects.
 use Rattle.std.proofs.Common.{ℕ, ◌<◌, ◌≤◌, Option, Some, None, le_trans, arith}
 use Rattle.safety.specs.Items.{Vote, Item, Promised, Accepted, P2a, IsReportOfAccept, IsCovered, IsPromiseReport, IsAcceptable}
 

@@ -1,4 +1,5 @@
 -- Several things added one after the other, as a fact and the messages that follow it.
+-- Needed by Acceptor.Effects, Argument.Events, Leader.Allowed, Manager.Allowed, World.AllowedEffects and World.Growth.
 use Rattle.std.proofs.Common.{◌≡◌, ◌⊎◌, ℕ, zero, suc, List, [], ◌∷◌, Some, None, inl, inr, refl, subst, ap, arith}
 use Rattle.std.specs.Prelude.{Contains}
 pub use Rattle.protocol.proofs.Lists.{Contains-head, Contains-one, Contains-cases, Contains-tail}

@@ -1,4 +1,5 @@
 -- One value for each instance, and one outcome for each transaction.
+-- Needed by 4 functions of this crate; Argument.Views and World.Reachable; 4 crates above.
 use Rattle.std.proofs.Common.{◌≡◌, ◌⊎◌, ℕ, zero, suc, ◌<◌, ◌≤◌, IsTrue, Option, Some, None, inl}
 use Rattle.std.proofs.Common.{inr, sym, subst, le_trans, eq-or-lt_of_le, eq-zero-or-pos, arith}
 use Rattle.safety.specs.Items.{Vote, Prepared, Aborted, Item, Voted, Committed, P1b, P2a, Commit, Abort}

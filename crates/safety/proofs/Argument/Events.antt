@@ -1,4 +1,5 @@
 -- One event of a run: facts that join, then messages that are sent.
+-- Needed by Acceptor.Effects, Leader.Allowed, Manager.Allowed, World.AllowedEffects and World.SafeSteps.
 use Rattle.std.proofs.Common.{◌≡◌, ◌⊎◌, ℕ, List, ◌++◌, None, inl, inr, refl, subst}
 use Rattle.std.specs.Prelude.{Contains}
 use Rattle.std.proofs.lemmas.List.Elements.{Contains-append_cases, Contains-append_left, Contains-append_right}

@@ -1,4 +1,5 @@
 -- The invariant holds before anything stands, and each allowed addition keeps it.
+-- Needed by Argument.Additions, Argument.Views, Leader.Allowed and World.Events; crates progress, answers and commits.
 use Rattle.std.proofs.Common.{◌≡◌, ◌⊎◌, ℕ, zero, suc, ◌<◌, Option, Some, None, inl, inr, ⊎_elim, sym, subst, arith}
 use Rattle.safety.specs.Items.{Vote, Item, Accepted, Voted, P1b, P2a}
 use Rattle.safety.specs.Items.{Setting, IsDecided, IsMajorityPick, IsReportOfAccept, IsCovered, IsProposal, IsSomeAborted}

@@ -1,4 +1,5 @@
 -- The views of a transaction's participants: consistent, and moved by the steps of the paper's machine.
+-- Needed by Argument.Additions and World.Reachable; crate progress.
 use Rattle.std.proofs.Common.{◌≡◌, ◌≢◌, ◌⊎◌, ℕ, Bool, true, false, IsTrue, Option}
 use Rattle.std.proofs.Common.{Some, None, inl, inr, refl, sym, subst, ap}
 use Rattle.safety.specs.Items.{Prepared, Aborted, Item, Committed, Commit}

@@ -1,4 +1,5 @@
 -- What a leader's effect hands over to the world: its items are allowed, and its fact plays.
+-- Needed by World.NodeRules.
 use Rattle.std.proofs.Common.{◌≡◌, inl, inr, ℕ, zero, suc, ◌<◌, true, IsTrue, List, [], ◌++◌, Option, Some, None, refl, sym, ap, subst}
 use Rattle.std.proofs.Common.{arith}
 use Rattle.std.specs.Prelude.{Contains}

@@ -1,4 +1,5 @@
 -- Each rule of a leader keeps its memory in order, and stores and sends only what it may.
+-- Needed by Leader.Allowed, World.Events, World.NodeRules, World.Outcomes and World.SafeSteps.
 use Rattle.std.proofs.Common.{◌≡◌, inl, inr, ℕ, ◌^◌, ◌<◌, true, false, not, ◌||◌, ◌&&◌, ◌==◌, nat_lt, IsTrue, if◌then◌else◌, List, []}
 use Rattle.std.proofs.Common.{◌∷◌, ◌++◌, map, filter_map, find, option_map, unwrap_or, Option, Some, None, refl, sym, ap, ◌∙◌, subst}
 use Rattle.std.specs.Option.{option_map_or}

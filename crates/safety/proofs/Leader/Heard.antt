@@ -1,4 +1,5 @@
 -- What a leader's tests say of what it heard: who reported, which value is picked, what is decided.
+-- Needed by Leader.Effects and Leader.Memory; crates progress, answers and commits.
 use Rattle.std.proofs.Common.{◌≡◌, ◌⊎◌, inl, inr, ℕ, ◌<◌, ◌≤◌, Bool, true, false, not, ◌||◌, ◌&&◌, if◌then◌else◌, ◌==◌, IsTrue, List, []}
 use Rattle.std.proofs.Common.{◌∷◌, Option, Some, None, is_some, filter_map, refl, sym, ap, ◌∙◌, subst}
 use Rattle.std.specs.List.{list_any, list_all, cons_option}

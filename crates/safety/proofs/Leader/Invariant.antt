@@ -1,4 +1,5 @@
 -- What a leader keeps in order, and what each of its rules hands over.
+-- Needed by 9 files here; crates progress and answers.
 use Rattle.std.specs.Prelude.{◌≡◌, ◌⊎◌, ℕ, ◌<◌, ◌^◌, true, IsTrue, List, Option, Some}
 use Rattle.xid.specs.Transactions.{TxParts, is_participant}
 use Rattle.xid.specs.declared.transaction.Vote.{Vote}

@@ -1,4 +1,5 @@
 -- A leader's invariant is kept: by what it hears, proposes and begins, and while others send.
+-- Needed by Leader.Effects; crates progress and forgetting.
 use Rattle.std.proofs.Common.{◌≡◌, ◌⊎◌, inl, inr, ℕ, ◌<◌, ◌≤◌, max, Bool, true, false, not, ◌&&◌, ◌==◌, if◌then◌else◌, List, [], ◌∷◌, ◌++◌}
 use Rattle.std.proofs.Common.{Option, Some}
 use Rattle.std.proofs.Common.{None, filter, filter_map, find, option_map, refl, sym, ap, ◌∙◌, subst, arith}

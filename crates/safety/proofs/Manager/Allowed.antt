@@ -1,4 +1,5 @@
 -- What a resource manager stores and sends, as items that may come to stand.
+-- Needed by World.NodeRules.
 use Rattle.std.proofs.Common.{◌≡◌, ◌⊎◌, ℕ, true, IsTrue, List, [], ◌∷◌, Option, Some, None, unwrap_or, inl, inr, sym, ap, ◌∙◌, subst, arith}
 use Rattle.std.proofs.Common.{refl}
 use Rattle.std.specs.Prelude.{Contains, IfSome}

@@ -1,4 +1,5 @@
 -- Keys and names of a resource manager's branches, whatever has happened.
+-- Needed by `keys_held_once`; crates floors and cluster_run.
 use Rattle.std.proofs.Common.{◌≡◌, ℕ, true, List, [], Some, ap, subst}
 use Rattle.stable_record.specs.Facts.{AreAscending}
 use Rattle.protocol.specs.Basics.{Fact}

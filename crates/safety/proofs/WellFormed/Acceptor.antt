@@ -1,4 +1,5 @@
 -- What an acceptor stores and sends is well-formed.
+-- Needed by WellFormed.Nodes.
 use Rattle.std.proofs.Common.{◌≡◌, ℕ, ◌<◌, ◌≤◌, Bool, true, if◌then◌else◌, List, [], Some, None, unwrap_or, refl, ap}
 use Rattle.std.proofs.Common.{subst, arith, nat_lt, nat_le, eq-eqb}
 use Rattle.std.specs.Prelude.{filter, not, is_some, ◌||◌, ◌==◌}

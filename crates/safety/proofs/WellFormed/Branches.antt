@@ -1,4 +1,5 @@
 -- The touched keys of the branches of a resource manager could all be stored, whatever calls have come.
+-- Needed by WellFormed.Manager, WellFormed.Nodes and WellFormed.Runs; crate run_traces.
 use Rattle.std.proofs.Common.{◌≡◌, ℕ, ◌+◌, ◌≤◌, Bool, true, false, ◌&&◌, ◌||◌, cond, if◌then◌else◌, List, [], ◌∷◌, Option, Some, None}
 use Rattle.std.proofs.Common.{length, inl, inr, refl, sym, ap, ◌∙◌, subst, arith, nat_lt, nat_le}
 use Rattle.std.specs.Prelude.{map}

@@ -1,4 +1,5 @@
 -- The items of bundles: those of the instances that pass a test are instances of the transaction, ascending.
+-- Needed by WellFormed.Acceptor.
 use Rattle.std.proofs.Common.{◌≡◌, ℕ, ◌≤◌, Bool, true, if◌then◌else◌, List, [], ◌∷◌, length, Option, Some, None, unwrap_or, is_some}
 use Rattle.std.proofs.Common.{refl, sym, ap, subst, arith}
 use Rattle.std.specs.Prelude.{map, filter, filter_map, IsTrue}

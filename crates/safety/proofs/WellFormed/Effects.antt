@@ -1,4 +1,5 @@
 -- What it is that an effect is well-formed.
+-- Needed by WellFormed.Acceptor, WellFormed.Leader, WellFormed.Manager, WellFormed.Nodes and WellFormed.Runs.
 use Rattle.std.proofs.Common.{ℕ, List}
 use Rattle.std.specs.Prelude.{IsTrue, IfSome}
 use Rattle.std.specs.List.{AllByRecursion}

@@ -1,4 +1,5 @@
 -- What a leader stores and sends is well-formed: all of it is of the transaction, the ballot and the instances of its input.
+-- Needed by WellFormed.Nodes.
 use Rattle.std.proofs.Common.{◌≡◌, ℕ, ◌^◌, not, ◌&&◌, ◌||◌, List, [], ◌∷◌, Option, Some, None, unwrap_or, ap}
 use Rattle.std.proofs.Common.{subst, arith, nat_lt}
 use Rattle.std.specs.Prelude.{filter_map, map}

@@ -1,4 +1,5 @@
 -- What a resource manager stores and sends is well-formed.
+-- Needed by WellFormed.Nodes.
 use Rattle.std.proofs.Common.{◌≡◌, ℕ, Bool, true, false, List, [], Option, Some, None, is_some, refl, subst, arith}
 use Rattle.std.proofs.lemmas.Bool.{cond_both}
 use Rattle.xid.specs.Names.{XidParts}

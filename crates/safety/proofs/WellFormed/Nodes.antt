@@ -1,4 +1,5 @@
 -- What any node stores and sends is well-formed, and its memory stays in order.
+-- Needed by WellFormed.Runs; crate run_traces.
 use Rattle.std.proofs.Common.{◌≡◌, ℕ, true, List, [], ◌∷◌, ◌++◌, Option, Some, None, inl, inr, refl, sym, subst}
 use Rattle.std.specs.Prelude.{IfSome}
 use Rattle.std.specs.Option.{option_to_list}

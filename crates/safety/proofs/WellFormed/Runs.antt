@@ -1,4 +1,5 @@
 -- Runs of well-formed events: whatever has happened, all datagrams are messages, and all facts could be stored.
+-- Needed by `datagrams_are_messages`, `facts_are_storable` and `well_formed_runs_reach`; crate run_traces.
 use Rattle.std.proofs.Common.{◌≡◌, inl, inr, ◌∙◌, ℕ, ◌<◌, zero, suc, true, false, List, [], ◌∷◌, ◌++◌, Option, Some, None}
 use Rattle.std.proofs.Common.{unwrap_or, refl, sym, ap, subst, arith, nat_lt}
 use Rattle.std.specs.Prelude.{length, slice_get, take, drop, is_some}

@@ -1,4 +1,5 @@
 -- Every event keeps a world safe, and moves each transaction by at most one step.
+-- Needed by `runs_reach` and `senders_are_named`; Manager.Holds, WellFormed.Runs and World.Reachable; 7 crates above.
 use Rattle.std.proofs.Common.{◌≡◌, inl, inr, ◌∙◌, ◌++◌, ℕ, zero, suc, ◌<◌, true, if◌then◌else◌, List, [], ◌∷◌}
 use Rattle.std.proofs.Common.{Option, Some, None, refl, sym, ap, subst, nat_lt}
 use Rattle.std.specs.Prelude.{slice_get, length}

@@ -1,4 +1,5 @@
 -- One more fact at a node and messages after those sent, as items that come to stand.
+-- Needed by 7 files here; crates progress, floors, history, cluster and run_traces.
 use Rattle.std.proofs.Common.{◌≡◌, ◌⊎◌, inl, inr, ⊎_elim, ◌∙◌, ℕ, List, [], ◌++◌, Option, Some, None, refl, sym, ap, subst}
 use Rattle.std.specs.List.{flat_map}
 use Rattle.std.specs.Option.{option_to_list}

@@ -1,4 +1,5 @@
 -- Nodes by their names: a node put in its place is there, and no other is changed; marks change no message.
+-- Needed by WellFormed.Runs, World.Changes, World.Events and World.Outcomes; 9 crates above.
 use Rattle.std.proofs.Common.{◌≡◌, ℕ, zero, suc, ◌+◌, ◌<◌, Bool, true, false, if◌then◌else◌, List, []}
 use Rattle.std.proofs.Common.{◌∷◌, Option, Some, None, refl, ap, nat_lt, arith}
 use Rattle.std.specs.Prelude.{◌++◌, replicate, slice_get}

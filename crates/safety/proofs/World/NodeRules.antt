@@ -1,4 +1,5 @@
 -- The effect of each node's rule is an `IsRuleEffect` in a world that is safe: what `Events` needs of it.
+-- Needed by World.Events.
 use Rattle.std.proofs.Common.{◌≡◌, ℕ, ◌<◌, true, List, Option, Some, refl, sym, ap, subst}
 use Rattle.std.proofs.lemmas.Bool.{cond_both}
 use Rattle.wire.specs.declared.message.Kind.{Kind}

@@ -1,4 +1,5 @@
 -- One input at one node, whatever its fate: what its rule hands over makes the world's next moment.
+-- Needed by 5 files here; 5 crates above.
 use Rattle.std.proofs.Common.{◌≡◌, ◌⊎◌, inl, inr, ◌∙◌, ℕ, Bool, true, false, not, List, [], ◌∷◌, ◌++◌, append_assoc}
 use Rattle.std.proofs.Common.{Option, Some, None, refl, sym, ap, subst, nat_le}
 use Rattle.std.specs.List.{flat_map}

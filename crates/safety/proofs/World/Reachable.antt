@@ -1,4 +1,5 @@
 -- What holds in every world that the cluster can come to.
+-- Needed by 12 functions of this crate; 9 crates above.
 use Rattle.std.proofs.Common.{◌≡◌, ◌≢◌, inl, inr, ◌∙◌, ℕ, ◌≤◌, Bool, true, IsTrue, if◌then◌else◌, []}
 use Rattle.std.proofs.Common.{Option, Some, None, sym, ap, subst}
 use Rattle.std.proofs.lemmas.Bool.{cases_eq}

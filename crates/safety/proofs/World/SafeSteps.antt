@@ -1,4 +1,5 @@
 -- What holds of a world at each moment of a run, and that it lasts while one node takes a step.
+-- Needed by WellFormed.Runs, World.Events, World.NodeRules, World.Outcomes and World.Reachable; crates progress, answers and history.
 use Rattle.std.proofs.Common.{◌≡◌, ◌⊎◌, inl, inr, ◌∙◌, ℕ, zero, suc, true, List, [], ◌++◌, Option, Some, None, refl, sym, ap, subst, arith}
 use Rattle.std.specs.List.{flat_map}
 use Rattle.std.specs.Option.{option_to_list}
