@@ -5,7 +5,7 @@ use Rattle.std.proofs.Common.{map, sum, Some, None, refl, sym, ap, subst, append
 use Rattle.std.specs.Prelude.{if◌then◌else◌}
 use Rattle.std.specs.List.{AllByRecursion, IsDistinct, list_any, flat_map}
 use Rattle.std.specs.Cmp.{unsigned_Decides, first_so, second_so}
-use Rattle.std.proofs.lemmas.Bool.{ltb-true, ltb-false, leb-true, lt-ltb, le-ltb, eq-eqb, eqb-true, and_from, true≢false}
+use Rattle.std.proofs.lemmas.Bool.{ltb-true, ltb-false, leb-true, lt-ltb, le-ltb, eq-eqb, eqb-true, and_from, or_right, true≢false}
 use Rattle.std.proofs.lemmas.List.Kept.{AllPairs-from_increasing}
 use Rattle.std.proofs.lemmas.Map.Keys.{IsDistinct-head, IsDistinct-tail}
 use Rattle.std.proofs.lemmas.Map.Made.{IsDistinct-from_AllPairs}
@@ -540,10 +540,6 @@ valid_tx (y ∷ ys) tx each there = by (tx_eq tx y) refl (λ rest. valid_tx ys t
 pub each_valid : (facts : List Fact) → AllByRecursion IsTx (begun_in facts) → AllByRecursion (λ fact. IsTx (fact_tx fact)) facts
 each_valid facts valid = rest_valid facts (λ tx there. there)
   where
-    or_yes : (a b : Bool) → b ≡ true → (a || b) ≡ true
-    or_yes true b e = refl
-    or_yes false b e = e
-
     rest_valid : (rest : List Fact) → ((tx : TxParts) → list_any (λ x. tx_eq tx (fact_tx x)) rest ≡ true
         → list_any (λ x. tx_eq tx (fact_tx x)) facts ≡ true) → AllByRecursion (λ fact. IsTx (fact_tx fact)) rest
     rest_valid [] sub = tt
@@ -551,5 +547,5 @@ each_valid facts valid = rest_valid facts (λ tx there. there)
       valid_tx (begun_in facts) (fact_tx fact) valid
           (first_any fact_tx (fact_tx fact) facts
           ∙ sub (fact_tx fact) (ap (λ t. t || list_any (λ x. tx_eq (fact_tx fact) (fact_tx x)) rest) (tx_self (fact_tx fact)))),
-      rest_valid rest (λ tx there. sub tx (or_yes (tx_eq tx (fact_tx fact)) _ there)),
+      rest_valid rest (λ tx there. sub tx (or_right (tx_eq tx (fact_tx fact)) _ there)),
     )

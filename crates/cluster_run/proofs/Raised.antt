@@ -1,8 +1,8 @@
 -- What the steps of a run say of how far the floor of a resource manager was raised.
-use Rattle.std.proofs.Common.{◌≡◌, ◌⊎◌, inl, inr, ◌∙◌, ℕ, zero, suc, Bool, true, false, not, ◌&&◌, ◌||◌, ◌==◌, if◌then◌else◌, List}
+use Rattle.std.proofs.Common.{◌≡◌, ◌⊎◌, inl, inr, ◌∙◌, ℕ, zero, suc, Bool, true, false, not, ◌&&◌, ◌==◌, if◌then◌else◌, List}
 use Rattle.std.proofs.Common.{◌∷◌, Option, Some, None, refl, sym, ap, subst}
 use Rattle.std.specs.Prelude.{slice_get}
-use Rattle.std.proofs.lemmas.Bool.{cond_both, both_ways, not-true, eqb-true, ne_eqb}
+use Rattle.std.proofs.lemmas.Bool.{cond_both, both_ways, not-true, eqb-true, ne_eqb, or_left, or_right}
 use Rattle.xid.specs.Places.{Place, is_lower, tx_place, xid_place}
 use Rattle.xid.specs.declared.refusals.Refusal.TheVariants.{Busy, Down, NoMemory, NoSuch}
 use Rattle.xid.proofs.Places.{not_lower, not_lower_self}
@@ -85,14 +85,6 @@ module _ (floor : Option Place) (node : NodeState) (place : Place) where
 pub record IsSaid (rm : ℕ) (floor : Option Place) (steps : List Step) : Type 0 where
   pub maybe : (request : Request) → is_request_below floor request ≡ true → is_over may_be_raised rm steps request ≡ true
   pub surely : (request : Request) → is_over is_done rm steps request ≡ true → is_request_below floor request ≡ true
-
-or_right : (a b : Bool) → b ≡ true → (a || b) ≡ true
-or_right true b e = refl
-or_right false b e = e
-
-or_left : (a b : Bool) → a ≡ true → (a || b) ≡ true
-or_left true b e = refl
-or_left false b e = absurd (cc (e))
 
 and_false : (a : Bool) → (a && false) ≡ false
 and_false true = refl

@@ -5,7 +5,7 @@ use Rattle.std.proofs.Common.{get_or, replicate, Some, None, sym, ap, refl, arit
 use Rattle.std.specs.Prelude.{cond, if◌then◌else◌, filter_map, find, map}
 use Rattle.std.specs.List.{list_any, cons_option, AllByRecursion}
 use Rattle.std.specs.Option.{option_map_or}
-use Rattle.std.proofs.lemmas.Bool.{true≢false, false≢true, eqb-true, eqb-false, cases_Bool, ltb-true, lt-ltb}
+use Rattle.std.proofs.lemmas.Bool.{true≢false, false≢true, eqb-true, eqb-false, cases_Bool, ltb-true, lt-ltb, or_right}
 use Rattle.std.proofs.lemmas.List.{length-set, get_or-set_same, get_or-set_other}
 use Rattle.xid.specs.Limits.{most_acceptors}
 use Rattle.xid.specs.Transactions.{TxParts, tx_eq}
@@ -193,10 +193,6 @@ tellers heard tx i b v x = list_any (is_accept_of tx i b v x) heard
 abbrev pub is_told : ℕ → List Kind → TxParts → ℕ → Vote → ℕ → Bool
 is_told n heard tx i v b = is_majority n (tellers heard tx i b v)
 
-or_more : (x y : Bool) → y ≡ true → (x || y) ≡ true
-or_more true y h = refl
-or_more false y h = h
-
 -- a list of ballots asked, where one more teller is asked of only one
 any_told : (p q : ℕ → Bool) (b : ℕ) → ((c : ℕ) → (c == b) ≡ false → q c ≡ p c) → (p b ≡ true → q b ≡ true) → (cs : List ℕ)
     → (q b || list_any q cs) ≡ (q b || list_any p cs)
@@ -234,7 +230,7 @@ decided_here n tx i b v a heard j w =
     any_told (is_told n heard tx j w) (is_told n (P2b tx i b v a ∷ heard) tx j w) b
     (λ c other. λ k. is_majority n (λ x. apart c other x k))
     (λ h. majority_more n (tellers heard tx j b w) (tellers (P2b tx i b v a ∷ heard) tx j b w)
-    (λ x e. or_more (is_accept_of tx j b w x (P2b tx i b v a)) (tellers heard tx j b w x) e) h)
+    (λ x e. or_right (is_accept_of tx j b w x (P2b tx i b v a)) (tellers heard tx j b w x) e) h)
     (filter_map (ballot_told tx j w) heard)
   where
     apart : (c : ℕ) → (c == b) ≡ false → (x : ℕ) → tellers (P2b tx i b v a ∷ heard) tx j c w x ≡ tellers heard tx j c w x

@@ -5,6 +5,7 @@ use Rattle.std.proofs.Common.{zero, suc, get_or, set, inl, Option, Some, None, r
 use Rattle.std.specs.Prelude.{◌||◌, if◌then◌else◌, is_some, MatchBool, Result, Ok, Err}
 use Rattle.std.specs.List.{list_any}
 use Rattle.std.specs.Option.{option_map_or}
+use Rattle.std.proofs.lemmas.Bool.{or_parts, or_right}
 use Rattle.std.proofs.lemmas.List.{take_all, take_more, take_more_set, drop_more, drop-set-lt, get_or-drop, get_or-map}
 use Rattle.std.proofs.lemmas.List.{length-map, length-set, map_push}
 use Rattle.std.proofs.lemmas.List.Folds.{list_any-append}
@@ -63,17 +64,13 @@ pub all_high : (floor : Option Place) (items : List Item) → are_above floor (m
 all_high floor [] = refl
 all_high floor (item ∷ items) = λ k. not (grouped_high floor item k) && all_high floor items k
 
-or_none : (a b : Bool) → (a || b) ≡ false → (a ≡ false) × (b ≡ false)
-or_none false b e = (refl, e)
-or_none true b e = absurd (cc (e))
-
 -- where nothing is set aside, a group is what it is made of
 pub whole_grouped : (floor : Option Place) (who : NodeId) (inputs : List Handed)
     → list_any (is_aside floor) (map (item_of who) inputs) ≡ false
     → map (grouped floor) (map (item_of who) inputs) ≡ map input_of inputs
 whole_grouped floor who [] none = refl
 whole_grouped floor who (input ∷ inputs) none =
-    let parts = or_none (is_aside floor (item_of who input)) (list_any (is_aside floor) (map (item_of who) inputs)) none in
+    let parts = or_parts (is_aside floor (item_of who input)) (list_any (is_aside floor) (map (item_of who) inputs)) none in
     λ k. kept_grouped floor who input parts.0 k ∷ whole_grouped floor who inputs parts.1 k
 
 -- ---- a group
@@ -101,7 +98,7 @@ none_taken test [] [] now none long = refl
 none_taken test [] (out ∷ outs) now none long = absurd (cc (long))
 none_taken test (item ∷ items) [] now none long = absurd (cc (long))
 none_taken test (item ∷ items) (out ∷ outs) now none long =
-    let parts = or_none (test item) (list_any test items) none in (
+    let parts = or_parts (test item) (list_any test items) none in (
       now,
       subst (λ (b : Bool). TakesIf b item now now out out) (sym parts.0) (refl, refl),
       none_taken test items outs now parts.1 (omega (arith, long)),
@@ -213,10 +210,6 @@ pub none_more : (floor : Option Place) (who : NodeId) (inputs : List Handed) (k 
 none_more floor who inputs k input lt read none kept =
     ap (list_any (is_aside floor)) (sym (more_items who inputs k input lt read))
     ∙ list_any-append (is_aside floor) (map (item_of who) (take k inputs)) (item_of who input ∷ []) ∙ λ i. none i || (kept i || false)
-
-or_right : (a b : Bool) → b ≡ true → (a || b) ≡ true
-or_right true b e = refl
-or_right false b e = e
 
 -- one of them is
 pub any_at : (floor : Option Place) (who : NodeId) (inputs : List Handed) (k : ℕ) (input : Handed) → k < length inputs
