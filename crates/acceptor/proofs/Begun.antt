@@ -15,7 +15,7 @@ use Rattle.ballot.specs.Slots.{empty_slot}
 use Rattle.stable_record.specs.declared.fact.FactKind.{FactKind as Fact}
 use Rattle.stable_record.specs.Facts.{fact_tx}
 use Rattle.transactions.specs.Seen.{seen_with}
-use Rattle.transactions.proofs.First.{seen_after, fold_both, fold_same, seen_all, first_any}
+use Rattle.transactions.proofs.First.{seen_after, fold_both, fold_same, seen_all, first_any, or_true}
 use Rattle.protocol.specs.declared.nodes.NodeId.TheVariants.{A}
 use Rattle.protocol.specs.Acceptors.{Slots, plays_at_acceptor, is_accepted}
 use Rattle.protocol.specs.Effects.{Config}
@@ -30,10 +30,6 @@ use Rattle.acceptor.specs.Compaction.{transaction_facts, compacted}
 use Rattle.acceptor.proofs.Instances.{each_named}
 use Rattle.acceptor.proofs.Played.{slot_more, stays}
 
-or_yes : (a : Bool) → (a || true) ≡ true
-or_yes true = refl
-or_yes false = refl
-
 -- ---- a slot is taken
 
 -- whether an instance took part in a ballot above 0, or accepted
@@ -43,14 +39,14 @@ taken s = nat_lt 0 s.mbal || is_some s.report
 -- it stays so
 taken_more : (m : ℕ) (r : Report) (o : Option ℕ) (q : Report) → (nat_lt 0 m || is_some r) ≡ true
     → (nat_lt 0 (raised m o) || is_some (latest r q)) ≡ true
-taken_more m r o (Some last) e = or_yes (nat_lt 0 (raised m o))
+taken_more m r o (Some last) e = or_true (nat_lt 0 (raised m o))
 taken_more m r None None e = e
 taken_more m r (Some b) None e = by (nat_lt 0 m) refl
   where
     by : (t : Bool) → nat_lt 0 m ≡ t → (nat_lt 0 (max m b) || is_some r) ≡ true
     by true some = ap (λ t. t || is_some r) (lt-ltb 0 (max m b) (omega (arith, ltb-true 0 m some)))
     by false none =
-        ap (λ t. nat_lt 0 (max m b) || t) (sym (ap (λ t. t || is_some r) none) ∙ e) ∙ or_yes (nat_lt 0 (max m b))
+        ap (λ t. nat_lt 0 (max m b) || t) (sym (ap (λ t. t || is_some r) none) ∙ e) ∙ or_true (nat_lt 0 (max m b))
 
 taken_then : (tx : TxParts) (i : ℕ) (s : Slot) (fact : Fact) → taken s ≡ true → taken (after_fact tx i s fact) ≡ true
 taken_then tx i s fact e = taken_more s.mbal s.report (ballot_joined tx i fact) (accept_of tx i fact) e
@@ -65,7 +61,7 @@ any_more p q each (i ∷ is) e = by (p i) refl (λ rest. any_more p q each is re
   where
     by : (t : Bool) → p i ≡ t → (list_any p is ≡ true → list_any q is ≡ true) → (q i || list_any q is) ≡ true
     by true here later = ap (λ t. t || list_any q is) (each i here)
-    by false here later = ap (λ t. q i || t) (later (sym (ap (λ t. t || list_any p is) here) ∙ e)) ∙ or_yes (q i)
+    by false here later = ap (λ t. q i || t) (later (sym (ap (λ t. t || list_any p is) here) ∙ e)) ∙ or_true (q i)
 
 -- an instance that passes a test
 member : (p : ℕ → Bool) (i : ℕ) (bs : List BranchParts) → list_any (is_at i) bs ≡ true → p i ≡ true → list_any p (rm_numbers bs) ≡ true
@@ -76,7 +72,7 @@ member p i (b ∷ bs) named e = by (b.rm == i) refl (λ rest. member p i bs rest
         → (p b.rm || list_any p (rm_numbers bs)) ≡ true
     by true here later = ap (λ t. t || list_any p (rm_numbers bs)) (ap p (eqb-true b.rm i here) ∙ e)
     by false here later =
-        ap (λ t. p b.rm || t) (later (sym (ap (λ t. t || list_any (is_at i) bs) here) ∙ named)) ∙ or_yes (p b.rm)
+        ap (λ t. p b.rm || t) (later (sym (ap (λ t. t || list_any (is_at i) bs) here) ∙ named)) ∙ or_true (p b.rm)
 
 -- a test that those named pass
 pub named_any : (p q : ℕ → Bool) (tx : TxParts) → ((i : ℕ) → is_participant tx i ≡ true → p i ≡ true → q i ≡ true)
@@ -89,7 +85,7 @@ named_any p q tx each e = from (participants tx) (each_named tx.branches tx.bran
       where
         by : (t : Bool) → p i ≡ t → (list_any p is ≡ true → list_any q is ≡ true) → (q i || list_any q is) ≡ true
         by true here later = ap (λ t. t || list_any q is) (each i named.0 here)
-        by false here later = ap (λ t. q i || t) (later (sym (ap (λ t. t || list_any p is) here) ∙ e)) ∙ or_yes (q i)
+        by false here later = ap (λ t. q i || t) (later (sym (ap (λ t. t || list_any p is) here) ∙ e)) ∙ or_true (q i)
 
 -- ---- a fact takes a slot of its transaction
 
@@ -114,7 +110,7 @@ accept_takes g tx i b v e =
     (first_so (is_participant tx i && leb (g tx i).mbal b) (not (is_accepted (g tx i) b v)) e))
     ((λ k. nat_lt 0 (raised (g tx i).mbal (if instance_eq-same tx i k then Some b else None))
     || is_some (latest (g tx i).report (if instance_eq-same tx i k then Some (b, v) else None)))
-    ∙ or_yes (nat_lt 0 (max (g tx i).mbal b)))
+    ∙ or_true (nat_lt 0 (max (g tx i).mbal b)))
 
 all_take : (g : Slots) (tx : TxParts) (b : ℕ) → plays_at_acceptor g (Fact.PromiseAll tx b) ≡ true
     → some_taken (λ other j. after_fact other j (g other j) (Fact.PromiseAll tx b)) tx ≡ true
@@ -295,5 +291,5 @@ compacted_begun slots txs once held = compacted_seen slots txs [] (each txs (λ 
     each [] there = tt
     each (y ∷ ys) there = (
       there y (ap (λ t. t || list_any (tx_eq y) ys) (tx_self y)),
-      each ys (λ tx e. there tx (ap (λ t. tx_eq tx y || t) e ∙ or_yes (tx_eq tx y))),
+      each ys (λ tx e. there tx (ap (λ t. tx_eq tx y || t) e ∙ or_true (tx_eq tx y))),
     )

@@ -8,6 +8,7 @@ use Rattle.std.proofs.lemmas.Bool.Decides.{nat_tests}
 use Rattle.std.proofs.lemmas.Bool.{and_parts, ltb-true, ltb-false}
 use Rattle.std.proofs.lemmas.List.{append_assoc, length-append, length-take-le, take_all, take-append-drop}
 use Rattle.std.proofs.lemmas.List.Elements.{All-take}
+use Rattle.transactions.proofs.First.{or_true}
 use Rattle.protocol.specs.Vocabulary.{Row}
 use Rattle.net_script.specs.declared.trace_lines.TraceLine.TheVariants.{Contents}
 use Rattle.net_script.specs.Traces.{head_text, entry_text, final_line, final_lines}
@@ -129,10 +130,6 @@ order_fails t n h = by (reads_kept t) h
     by : (b : Bool) → (b && are_tables (serial t) 0 (take n t.finals)) ≡ false → (b && are_tables (serial t) 0 t.finals) ≡ false
     by true wrong = tables_fail (serial t) 0 t.finals n wrong
     by false wrong = refl
-
-or_true : (b : Bool) → (b || true) ≡ true
-or_true true = refl
-or_true false = refl
 
 some_rows : (fs : List (List Row)) → 0 < length fs → eqb (length fs) 0 ≡ false
 some_rows [] some = absurd (omega (arith, some))

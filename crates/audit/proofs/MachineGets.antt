@@ -24,7 +24,7 @@ use Rattle.history.specs.SerialOrder.{first_commits, those_before, serial_read}
 use Rattle.history.specs.SerialOrder as serial
 use Rattle.history.specs.Writes.{actions_since_start, writes_of}
 use Rattle.history.proofs.Runs.{IsRun, AtFirst, Then}
-use Rattle.history.proofs.SerialReads.{reads_serial}
+use Rattle.history.proofs.SerialReads.{reads_serial, rest_of}
 use Rattle.audit.specs.declared.stretch.Shown.{Shown}
 use Rattle.audit.specs.Consistent.{serial_table, are_shown, reads_are_serial}
 use Rattle.audit.specs.Stretches as stretches
@@ -136,10 +136,6 @@ gotten rm x (step ∷ before) get h = by (gotten rm x before get) (done_at rm x 
         ]
 
 -- ---- in a run of the machine
-
-abbrev rest_of : List Step → List Step
-rest_of [] = []
-rest_of (step ∷ rest) = rest
 
 -- the run up to an earlier step
 pub earlier : (config : Config) (world : World) (history later before : List Step) → IsRun config world history

@@ -12,9 +12,11 @@ use Rattle.std.proofs.lemmas.List.Folds.{list_any_none, list_any_more}
 use Rattle.std.proofs.lemmas.List.Sums.{position_or_len_is}
 use Rattle.xid.specs.Transactions.{BranchParts, TxParts, IsTx, is_at, nth_branch, rm_numbers, xid_of}
 use Rattle.wire.proofs.Ascending.{later}
+use Rattle.transactions.proofs.First.{or_true}
 use Rattle.protocol.specs.Basics.{Touched}
 use Rattle.protocol.specs.Vocabulary.{Row}
 use Rattle.protocol.specs.Tables.{with_writes}
+use Rattle.safety.proofs.World.Changes.{or_none}
 use Rattle.audit.specs.Stretches.{Stretches, writes_in, writes_at}
 use Rattle.audit.specs.Books.{place_at}
 
@@ -83,14 +85,6 @@ module _ (tx : TxParts) (is : IsTx tx) (i : ℕ) (lt : i < length tx.branches) w
 
 -- ---- one participant more
 
-or_false : (b : Bool) → (b || false) ≡ b
-or_false true = refl
-or_false false = refl
-
-or_true : (b : Bool) → (b || true) ≡ true
-or_true true = refl
-or_true false = refl
-
 module _ (w : ℕ → List Touched) (c : ℕ → Bool) (init now next : ℕ → List Row) (done : ℕ → Bool) (r : ℕ) (k : Bool)
     (so_far : (rm : ℕ) → now rm ≡ cond (done rm && c rm) (with_writes (init rm) (w rm)) (init rm))
     (step : (rm : ℕ) → next rm ≡ cond ((r == rm) && k) (with_writes (now r) (w r)) (now rm))
@@ -110,7 +104,7 @@ module _ (w : ℕ → List Touched) (c : ℕ → Bool) (init now next : ℕ → 
           subst (λ n. next n ≡ cond ((done n || true) && c n) (with_writes (init n) (w n)) (init n)) ((unsigned_Decides r rm).0 e) own
       by false e =
           step rm ∙ ap (λ b. cond (b && k) (with_writes (now r) (w r)) (now rm)) e ∙ so_far rm
-          ∙ sym (ap (λ b. cond (b && c rm) (with_writes (init rm) (w rm)) (init rm)) (or_false (done rm)))
+          ∙ sym (ap (λ b. cond (b && c rm) (with_writes (init rm) (w rm)) (init rm)) (or_none (done rm)))
 
 -- the participants so far, and one more
 pub taken_more : (tx : TxParts) (i : ℕ) → i < length tx.branches → (rm : ℕ)

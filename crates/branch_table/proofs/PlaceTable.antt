@@ -23,11 +23,7 @@ use Rattle.branch_table.specs.declared.hold.Hold.{Hold}
 use Rattle.branch_table.specs.declared.places.Place.{Place}
 use Rattle.stable_record.specs.Facts.{IsKey, IsAct}
 use Rattle.branch_table.proofs.RowLimits.{row_fits}
-use Rattle.branch_table.proofs.TableRows.{flipped, table_after}
-
--- what is known of each key: its value and its holders
-abbrev pub Known : Type 0
-Known = List (List ℕ × Place)
+use Rattle.branch_table.proofs.TableRows.{Known, flipped, table_after}
 
 lookup_same : {K X : Type 0} (p q : K → Bool) (es : List (K × X)) → ((k : K) → p k ≡ q k) → lookup p es ≡ lookup q es
 lookup_same p q [] same = refl

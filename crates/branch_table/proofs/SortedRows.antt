@@ -17,10 +17,7 @@ use Rattle.protocol.specs.Branches.{row_at}
 use Rattle.protocol.proofs.TouchedKeys.{later_by}
 use Rattle.branch_table.specs.Parts.{place_at, rows_in, table_of}
 use Rattle.branch_table.specs.declared.places.Place.{Place}
-use Rattle.branch_table.proofs.TableRows.{AscendRows, before_more, first_value, flipped, same_rows, table_ascends, table_at}
-
-abbrev Known : Type 0
-Known = List (List ℕ × Place)
+use Rattle.branch_table.proofs.TableRows.{AscendRows, Known, before_more, first_value, flipped, same_rows, table_ascends, table_at}
 
 -- the keys of places, and of rows
 abbrev pub keys_known : Known → List (List ℕ)

@@ -26,7 +26,7 @@ use Rattle.branch_table.specs.Parts.{uses_in}
 use Rattle.branch_table.specs.Parts.{uses_of}
 use Rattle.branch_table.specs.declared.hold.Hold.{Hold}
 use Rattle.branch_table.proofs.Hindered.{own_within}
-use Rattle.branch_table.proofs.PlaceTable.{Known}
+use Rattle.branch_table.proofs.TableRows.{Known}
 use Rattle.branch_table.proofs.Found.{view_or_none}
 use Rattle.branch_table.proofs.CallSteps.{apart_after, apart_same, apart_touched, apart_without, free_of, others_shown, shown}
 use Rattle.branch_table.proofs.CallSteps.{shows_written, started_branch}

@@ -248,7 +248,8 @@ flipped x y =
     let there = bytes_eq-Decides y x in
     same_from_decides _ _ here ((λ e. sym (there.0 e)), (λ e. there.1 (sym e)))
 
-abbrev Known : Type 0
+-- what is known of each key: its value and its holders
+abbrev pub Known : Type 0
 Known = List (List ℕ × Place)
 
 -- the table of places ascends

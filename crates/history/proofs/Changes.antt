@@ -20,30 +20,22 @@ use Rattle.protocol.specs.Facts.{vote_in, is_ended, is_vote_of, is_commit_of, is
 use Rattle.protocol.specs.Managers.{Branch}
 use Rattle.protocol.specs.Nodes.{Input}
 use Rattle.protocol.specs.Worlds.{view_number, change_of}
-use Rattle.protocol.proofs.Manager.Views.{casts_decides, aborts_decides, prepared_shows}
+use Rattle.protocol.proofs.Manager.Views.{casts_decides, aborts_decides, prepared_shows, view_of}
 use Rattle.protocol.proofs.Manager.Effects.{IsManagerFact}
-use Rattle.safety.proofs.World.Changes.{change_by, last_is}
+use Rattle.safety.proofs.World.Changes.{change_by, last_is, or_none}
 use Rattle.history.specs.Lines.{view_stored, change_stored}
-
-pub or_none : (b : Bool) → (b || false) ≡ b
-or_none true = refl
-or_none false = refl
 
 -- one more element
 any_then : (p : Fact → Bool) (facts : List Fact) (fact : Fact) → list_any p (facts ++ fact ∷ []) ≡ (list_any p facts || p fact)
 any_then p facts fact = list_any-append p facts (fact ∷ []) ∙ ap (λ (b : Bool). list_any p facts || b) (or_none (p fact))
 
--- the view, by what is stored
-abbrev shown : (voted_aborted aborted committed voted_prepared : Bool) → View
-shown a b c d = if a || b then views.Aborted else if c then views.Committed else if d then views.Prepared else views.Working
-
 abbrev any_vote : Vote → List Fact → TxParts → Bool
 any_vote v facts tx = list_any (is_vote_of tx v) facts
 
 view_then : (facts : List Fact) (fact : Fact) (tx : TxParts) → view (facts ++ fact ∷ []) tx
-    ≡ shown (any_vote votes.Aborted facts tx || is_vote_of tx votes.Aborted fact) (list_any (is_abort_of tx) facts || is_abort_of tx fact)
+    ≡ view_of (any_vote votes.Aborted facts tx || is_vote_of tx votes.Aborted fact) (list_any (is_abort_of tx) facts || is_abort_of tx fact)
     (list_any (is_commit_of tx) facts || is_commit_of tx fact) (any_vote votes.Prepared facts tx || is_vote_of tx votes.Prepared fact)
-view_then facts fact tx = λ i. shown (any_then (is_vote_of tx votes.Aborted) facts fact i) (any_then (is_abort_of tx) facts fact i)
+view_then facts fact tx = λ i. view_of (any_then (is_vote_of tx votes.Aborted) facts fact i) (any_then (is_abort_of tx) facts fact i)
     (any_then (is_commit_of tx) facts fact i) (any_then (is_vote_of tx votes.Prepared) facts fact i)
 
 -- neither vote nor outcome is stored
@@ -71,7 +63,7 @@ pub record IsViewChange (facts : List Fact) (fact : Fact) : Type 0 where
   pub differs : (view_number (view facts (fact_tx fact)) == view_number (view_stored fact)) ≡ false
 
 pub new_is_working : (facts : List Fact) (tx : TxParts) → IsNew facts tx → view facts tx ≡ views.Working
-new_is_working facts tx new = λ i. shown (new.voted_aborted i) (new.aborted i) (new.committed i) (new.voted_prepared i)
+new_is_working facts tx new = λ i. view_of (new.voted_aborted i) (new.aborted i) (new.committed i) (new.voted_prepared i)
 
 differs_from : (v w : View) (facts : List Fact) (tx : TxParts) → view facts tx ≡ v → (view_number v == view_number w) ≡ false
     → (view_number (view facts tx) == view_number w) ≡ false
@@ -92,7 +84,7 @@ vote_prepared_changes : (facts : List Fact) (tx : TxParts) (fact : Fact) → fac
     → (is_commit_of tx fact ≡ false) → view (facts ++ fact ∷ []) tx ≡ views.Prepared
 vote_prepared_changes facts tx fact own new p a b c =
     view_then facts fact tx
-    ∙ (λ i. shown (new.voted_aborted i || a i) (new.aborted i || b i) (new.committed i || c i) (new.voted_prepared i || p i))
+    ∙ (λ i. view_of (new.voted_aborted i || a i) (new.aborted i || b i) (new.committed i || c i) (new.voted_prepared i || p i))
 
 -- what a rule stores changes the view
 pub changes_view : (rm : ℕ) (facts : List Fact) (branches : List Branch) (input : Input) (fact : Fact)
@@ -107,7 +99,7 @@ changes_view rm facts branches input (stored.VoteAborted tx) rule =
     let new = is_new_by facts tx rule.1.new rule.1.unended in
     record {
       after = view_then facts (stored.VoteAborted tx) tx
-          ∙ (λ i. shown (new.voted_aborted i || tx_self tx i) (new.aborted i || false) (new.committed i || false)
+          ∙ (λ i. view_of (new.voted_aborted i || tx_self tx i) (new.aborted i || false) (new.committed i || false)
           (new.voted_prepared i || false));
       differs = differs_from views.Working views.Aborted facts tx (new_is_working facts tx new) refl;
     }
@@ -118,7 +110,7 @@ changes_view rm facts branches input (stored.Committed tx) rule =
     let c = or_right (list_any (is_commit_of tx) facts) (tx_eq tx tx) (tx_self tx) in
     record {
       after = view_then facts (stored.Committed tx) tx
-          ∙ (λ i. shown (a i || false) (b i || false) (c i) (any_vote votes.Prepared facts tx || false));
+          ∙ (λ i. view_of (a i || false) (b i || false) (c i) (any_vote votes.Prepared facts tx || false));
       differs = differs_from views.Prepared views.Committed facts tx (prepared_is (view facts tx) rule.prepared) refl;
     }
 changes_view rm facts branches input (stored.Aborted tx) rule =

@@ -71,7 +71,7 @@ record IsLast (config : Config) (world : World) (step : Step) (rest : List Step)
   is_step : step_of before event (world_step config before event fault) ≡ step
   is_world : (world_step config before event fault).world ≡ world
 
-abbrev rest_of : List Step → List Step
+abbrev pub rest_of : List Step → List Step
 rest_of [] = []
 rest_of (step ∷ rest) = rest
 

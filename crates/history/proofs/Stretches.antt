@@ -9,10 +9,10 @@ use Rattle.std.proofs.lemmas.List.Sums.{take_while-cons}
 use Rattle.xid.specs.Names.{XidParts}
 use Rattle.xid.specs.Transactions.{TxParts}
 use Rattle.protocol.specs.Vocabulary.{Change, Step, Action}
+use Rattle.safety.proofs.World.Changes.{or_none}
 use Rattle.history.specs.Lines.{change_at, changes_at}
 use Rattle.history.specs.Calls.{is_restart}
 use Rattle.history.specs.LookingBack.{is_rollback, done_at, is_name_at, ends_at, actions_since, is_vote_at, before_vote}
-use Rattle.history.proofs.Changes.{or_none}
 
 module _ (rm : ℕ) (step : Step) (before : List Step) where
   -- what was done in a branch, by whether the step ends that

@@ -25,7 +25,7 @@ use Rattle.protocol.specs.Managers.{Branch, view_by, view_named, branches_withou
 use Rattle.protocol.specs.Nodes.{NodeState, new_node, all_play, first_rows}
 use Rattle.protocol.specs.Tables.{table}
 use Rattle.protocol.specs.Worlds.{World, node_at, step_of, world_step}
-use Rattle.safety.proofs.World.Changes.{view_other}
+use Rattle.safety.proofs.World.Changes.{view_other, or_none}
 use Rattle.branch_table.specs.OneCall.{view_in_state, view_after_done}
 use Rattle.branch_table.proofs.Views.{view_of}
 use Rattle.protocol.specs.Holds.{AreInOrder, AreNamedOnce, IsIn, names_of}
@@ -42,7 +42,7 @@ use Rattle.safety.proofs.World.SafeSteps.{IsSafe}
 use Rattle.history.specs.Lines.{change_at, changes_at, change_stored, view_stored, view_back, is_spent_back}
 use Rattle.history.specs.Calls.{call_done, is_restart}
 use Rattle.history.specs.LookingBack.{is_rollback, branch_by, done_at, actions_since, is_vote_at, before_vote}
-use Rattle.history.proofs.Changes.{IsViewChange, changes_view, or_none}
+use Rattle.history.proofs.Changes.{IsViewChange, changes_view}
 use Rattle.history.proofs.Moves.{manager_in, branches_of, left_by, IsQuiet, IsRestarted, IsCalled, IsStored, IsMove, Quiet, Restarted}
 use Rattle.history.proofs.Moves.{Called, Stored, event_moved}
 use Rattle.history.proofs.Runs.{IsRun, AtFirst, Then, reached, facts_in, new_manager}

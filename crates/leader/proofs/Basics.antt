@@ -35,6 +35,11 @@ nat_turned a b = elim (cases_Bool (a == b)) [
 
 -- ---- and
 
+-- and false is false
+pub and_no : (t : Bool) → (t && false) ≡ false
+and_no true = refl
+and_no false = refl
+
 -- what ends in false is false
 pub and_false_3 : (x y z : Bool) → (x && y && (z && false)) ≡ false
 and_false_3 true true true = refl

@@ -8,10 +8,7 @@ use Rattle.ballot.specs.Majority.{has}
 use Rattle.leader.specs.declared.instance.InstanceCourse.{InstanceCourse}
 use Rattle.leader.specs.Choices.{merged}
 use Rattle.leader.specs.Courses.{joined, with_said, first_report, with_report, with_reports}
-
-and_no : (t : Bool) → (t && false) ≡ false
-and_no true = refl
-and_no false = refl
+use Rattle.leader.proofs.Basics.{and_no}
 
 -- a report more of an acceptor that was heard changes nothing
 heard_before : (a : ℕ) (item : InstanceReport) (row : InstanceCourse) → has row.reporters a ≡ true → with_report a item row ≡ row

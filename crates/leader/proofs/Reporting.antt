@@ -20,7 +20,7 @@ use Rattle.protocol.specs.PaperItems.{report_messages}
 use Rattle.leader.specs.declared.instance.InstanceCourse.{InstanceCourse}
 use Rattle.leader.specs.Choices.{merged, best_of}
 use Rattle.leader.specs.Courses.{CourseParts, InstanceStands, CourseStands, joined, with_report, with_reports, after_reports}
-use Rattle.leader.proofs.Basics.{tx_self, nat_self, nat_turned}
+use Rattle.leader.proofs.Basics.{and_no, tx_self, nat_self, nat_turned}
 use Rattle.leader.proofs.Elsewhere.{SameAt, instance_same}
 use Rattle.leader.proofs.Telling.{has_joined, all_mapped, instances_kept}
 
@@ -30,10 +30,6 @@ end_3 : (x y : Bool) → (x && y && false) ≡ false
 end_3 true true = refl
 end_3 true false = refl
 end_3 false y = refl
-
-end_2 : (x : Bool) → (x && false) ≡ false
-end_2 true = refl
-end_2 false = refl
 
 other_instance : (tx : TxParts) (j : ℕ) (b a : ℕ) (item : InstanceReport) (memory : LeaderMemory) → (item.instance == j) ≡ false
     → SameAt tx j memory (with_heard (P1b tx item.instance b item.report a) memory)
@@ -45,7 +41,7 @@ other_instance tx j b a item memory h =
           (ap (λ t. (x == a) && (c == b) && (t && tx_eq tx tx)) differs ∙ end_3 (x == a) (c == b));
       reports = λ c. ap (λ o. cons_option o (filter_map (message_report tx j c) memory.heard))
           (ap (λ t. if (c == b) && (t && tx_eq tx tx) then Some item.report else None) differs
-          ∙ ap (λ t. if t then Some item.report else None) (end_2 (c == b)));
+          ∙ ap (λ t. if t then Some item.report else None) (and_no (c == b)));
       proposed_is = λ c. refl;
       told = λ c v x. refl;
       ballots = λ v. refl;

@@ -13,7 +13,7 @@ use Rattle.stable_record.specs.declared.fact.FactKind.{FactKind as Fact}
 use Rattle.stable_record.specs.Parts.{IsPlayed, IsMadeReady}
 use Rattle.stable_record.specs.Facts.{fact_tx}
 use Rattle.transactions.specs.Seen.{seen_with}
-use Rattle.transactions.proofs.First.{first_more}
+use Rattle.transactions.proofs.First.{first_more, or_true}
 use Rattle.protocol.specs.Effects.{Config}
 use Rattle.protocol.specs.Facts.{last_ballot}
 use Rattle.protocol.specs.LeaderMemory.{LeaderMemory, StoredBallots}
@@ -26,10 +26,6 @@ use Rattle.leader.proofs.Basics.{tx_self}
 use Rattle.leader.proofs.Leading.{moved, with_courses, kept_same, store_stands, plays_here}
 
 -- ---- one more among those that begin
-
-or_true : (t : Bool) → (t || true) ≡ true
-or_true true = refl
-or_true false = refl
 
 -- those seen stay
 pub still_seen : (seen : List TxParts) (tx x : TxParts) → list_any (tx_eq x) seen ≡ true → list_any (tx_eq x) (seen_with seen tx) ≡ true

@@ -22,7 +22,7 @@ use Rattle.leader.specs.declared.instance.Told.{Told}
 use Rattle.leader.specs.Courses.{CourseParts, InstanceStands, CourseStands, nobody, joined, is_place_of, told_of, with_member}
 use Rattle.leader.specs.Courses.{first_told, told_by}
 use Rattle.leader.specs.Courses.{with_decided, Telling, after_accept, telling_of, after_accepts}
-use Rattle.leader.proofs.Basics.{tx_self, nat_turned, is_false}
+use Rattle.leader.proofs.Basics.{and_no, tx_self, nat_turned, is_false}
 
 -- ---- an acceptor more
 
@@ -108,10 +108,6 @@ has_nobody x = none_of most_acceptors x
 and_yes : (t : Bool) → (t && true) ≡ t
 and_yes true = refl
 and_yes false = refl
-
-and_no : (t : Bool) → (t && false) ≡ false
-and_no true = refl
-and_no false = refl
 
 -- at the place
 joined_at : (x a : ℕ) (key : Bool) (members : List Bool) → key ≡ true → a < length members

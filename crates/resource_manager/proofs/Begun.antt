@@ -7,6 +7,7 @@ use Rattle.std.proofs.lemmas.List.Folds.{list_any-append}
 use Rattle.xid.specs.Transactions.{TxParts, tx_eq}
 use Rattle.xid.specs.declared.transaction.Vote.{Vote}
 use Rattle.xid.proofs.Deciding.{tx_decides}
+use Rattle.transactions.proofs.First.{or_false}
 use Rattle.ballot.specs.Greatest.{IsIn}
 use Rattle.stable_record.specs.declared.fact.FactKind.{FactKind as Fact}
 use Rattle.stable_record.specs.Facts.{fact_tx}
@@ -44,10 +45,6 @@ begun_append seen [] more = refl
 begun_append seen (f ∷ facts) more = begun_append (seen_after seen f) facts more
 
 -- ---- what passes a test
-
-or_false : (a : Bool) → a ≡ (a || false)
-or_false true = refl
-or_false false = refl
 
 module _ (q : TxParts → Bool) where
   any_seen : (seen : List TxParts) (tx : TxParts) → list_any q (seen_with seen tx) ≡ (list_any q seen || q tx)

@@ -10,11 +10,11 @@ use Rattle.xid.specs.Transactions.{TxParts, tx_eq}
 use Rattle.xid.proofs.Deciding.{tx_decides, tx_self}
 use Rattle.transactions.specs.Seen.{seen_with, first_seen}
 
-or_false : (a : Bool) → a ≡ (a || false)
+pub or_false : (a : Bool) → a ≡ (a || false)
 or_false true = refl
 or_false false = refl
 
-or_true : (a : Bool) → (a || true) ≡ true
+pub or_true : (a : Bool) → (a || true) ≡ true
 or_true true = refl
 or_true false = refl
 

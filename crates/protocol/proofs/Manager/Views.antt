@@ -167,7 +167,7 @@ unended facts tx e =
 
 -- ---- views
 
-abbrev view_of : (voted_aborted dropped committed voted_prepared : Bool) → View
+abbrev pub view_of : (voted_aborted dropped committed voted_prepared : Bool) → View
 view_of a b c d = if a || b then views.Aborted else if c then views.Committed else if d then views.Prepared else views.Working
 
 module _ (facts : List Fact) (tx : TxParts) where

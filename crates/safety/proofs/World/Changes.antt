@@ -36,7 +36,7 @@ use Rattle.protocol.specs.Worlds.{with_mark}
 
 -- ---- one more fact
 
-or_none : (b : Bool) → (b || false) ≡ b
+pub or_none : (b : Bool) → (b || false) ≡ b
 or_none true = refl
 or_none false = refl
 

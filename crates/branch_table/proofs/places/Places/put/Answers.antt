@@ -5,7 +5,8 @@ use Rattle.protocol.specs.Tables.{put_row}
 use Rattle.branch_table.specs.Parts.{free, hold_at, table_of}
 use Rattle.branch_table.specs.TableStates.{are_rows, is_row}
 use Rattle.branch_table.specs.declared.places.Place.{Place}
-use Rattle.branch_table.proofs.PlaceTable.{Known, free_set, known, rows_set, sets}
+use Rattle.branch_table.proofs.PlaceTable.{free_set, known, rows_set, sets}
+use Rattle.branch_table.proofs.TableRows.{Known}
 use Rattle.branch_table.proofs.RowLimits.{put_fits}
 use Rattle.branch_table.proofs.places.Places.put.Goals as goal
 
