@@ -26,6 +26,7 @@ invariant_of-self-in-None g c =
     let new = g.R.Record.held c.replace-in-None.new.self in
     put_fronted inside.floor old new c.replace-in-None.result inside.is_known c.args.bytes.now c.if-not-self.false
     c.self.invariant
-    (subst (λ (floor : Option Place). IsBytes (front_of floor ++ c.args.bytes.now)) (sym c.in-None.is) (λ i. Fits-lt-pow (c.type_inv.bytes i)))
+    (subst (λ (floor : Option Place). IsBytes (front_of floor ++ c.args.bytes.now)) (sym c.in-None.is)
+    (λ i. Fits-lt-pow (c.type_inv.bytes i)))
     (subst (λ (floor : Option Place). HasPut (front_of floor ++ c.args.bytes.now) old new c.replace-in-None.result) (sym c.in-None.is)
     c.replace-in-None.ensures.step)
