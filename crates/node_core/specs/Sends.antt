@@ -29,4 +29,4 @@ pub record IsReplied (len : ℕ) (bytes : List ℕ) : Type 0 where
 -- again, what it asks, or a leader's
 pub record AreSends (replied reminded question led : List Outgoing) : Type 0 where
   pub by_leader : 0 < length led → length reminded + length question ≡ 0
-  pub by_acceptor : 0 < length replied → length reminded + length question + length led ≡ 0
+  pub by_reply : 0 < length replied → length reminded + length question + length led ≡ 0
