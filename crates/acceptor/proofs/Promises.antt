@@ -24,9 +24,3 @@ module _ {X : Type 0} (f : X → X) where
   changed_next xs i d lt =
       let next : suc i ≡ i + 1 = omega arith in
       ap (λ y. set (changed xs i) i (f y)) (here_before xs i d lt) ∙ changed_suc xs i d lt ∙ ap (changed xs) next
-
-  pub length-changed : (xs : List X) (i : ℕ) → length (changed xs i) ≡ length xs
-  length-changed [] zero = refl
-  length-changed [] (suc i) = refl
-  length-changed (x ∷ xs) zero = refl
-  length-changed (x ∷ xs) (suc i) = ap suc (length-changed xs i)

@@ -1,5 +1,5 @@
 -- The rows of an ordered map, and what a change of one entry makes of them.
-use Rattle.std.proofs.Common.{◌≡◌, ◌∙◌, ℕ, Bool, true, false, not, cond, List, [], ◌∷◌, Some, None, refl, sym, ap, subst}
+use Rattle.std.proofs.Common.{◌≡◌, ◌∙◌, ℕ, Bool, true, false, not, cond, List, [], ◌∷◌, Some, refl, sym, ap, subst}
 use Rattle.std.specs.Prelude.{filter}
 use Rattle.std.specs.List.{AllByRecursion}
 use Rattle.std.specs.List.Sorted.{IsStrictlySortedBy}
@@ -54,10 +54,6 @@ module _ {K : Type 0} (f : K → List ℕ) where
   sorted_tail e es sorted = sorted.1
 
   -- ---- what is read
-
-  none_after : (k : List ℕ) (es : Entries) → AreAfter k es → row_at (rows_in f es) k ≡ None
-  none_after k [] after = refl
-  none_after k ((x, v) ∷ es) after = rw (flipped (f x) k, same_by k (f x) Less after.0) (none_after k es after.1)
 
   pub row_found : (q : List ℕ) (es : Entries) → row_at (rows_in f es) q ≡ lookup (λ k. is_eq (cmp q (f k))) es
   row_found q [] = refl

@@ -108,12 +108,6 @@ module _ (config : Config) (who : NodeId) where
   to_leaders : (message : Kind) → count config who (to addresses.Leaders message ∷ []) ≡ config.leaders
   to_leaders message = one addresses.Leaders message ∙ length-map-range_with_len L 0 config.leaders
 
-  to_managers : (message : Kind) → count config who (to addresses.Managers message ∷ []) ≡ length (message_tx message).branches
-  to_managers message =
-      one addresses.Managers message
-      ∙ length-map (participants (message_tx message)) R
-      ∙ participants_count (message_tx message)
-
   sums : (a b m n : ℕ) → a ≡ m → b ≡ n → a + b ≡ n + m
   sums a b m n e g = omega (arith, e, g)
 

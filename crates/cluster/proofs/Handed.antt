@@ -353,15 +353,6 @@ module _ (sizes : Sizes) (nodes : List FlooredParts) (network after marked : Net
       (cluster_of sizes nodes marked notices) answered refl refl d.receiver
       (Received d.message) none answer_is now_is (stands_marked notices config world s)))
 
-  -- it is found again
-  pub found_again : (notices : NoticesParts) → IsSound (cluster_of sizes nodes network notices)
-      → ((net : List Datagram) → StandsFor after net → Finds net n None) → ⊥
-  found_again notices sound none =
-      let net : List Datagram = sound.world.machine.net in
-      let f = finds net sound.is.net_is in
-      let e : None ≡ Some f.0 = sym (none net (same net sound.is.net_is)) ∙ f.1 in
-      absurd (cc (e))
-
   module _ (again : DatagramParts) (finds_again : (net : List Datagram) → StandsFor after net → Finds net n (Some again))
       (at : ℕ) (is : Some at ≡ place (config_by sizes []) first.receiver) (node new : FlooredParts) (out : Output)
       (read : node ≡ get_or nodes at node)

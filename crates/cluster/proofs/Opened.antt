@@ -3,7 +3,7 @@
 use Rattle.std.proofs.Common.{◌≡◌, ◌⊎◌, ◌∙◌, inl, inr, ℕ, suc, ◌+◌, ◌<◌, Bool, true, false, List, [], ◌∷◌}
 use Rattle.std.proofs.Common.{◌++◌, length, map, get_or, Option, Some, None, refl, sym, ap, subst, append_assoc, length-append}
 use Rattle.std.proofs.Common.{arith}
-use Rattle.std.specs.Prelude.{◌==◌, slice_get, replicate, IsTrue, Err}
+use Rattle.std.specs.Prelude.{◌==◌, slice_get, replicate, IsTrue}
 use Rattle.std.specs.List.{All, AllZip, slice_set}
 use Rattle.std.specs.Option.{option_and_then, option_map_or}
 use Rattle.std.proofs.lemmas.Bool.{eqb-true}
@@ -13,12 +13,11 @@ use Rattle.std.proofs.Math.Seq.{get_or-append_seam}
 use Rattle.std.proofs.lemmas.List.Elements.{All-push, All-head, All-tail}
 use Rattle.std.proofs.lemmas.Simd.{splat_is_map}
 use Rattle.xid.specs.declared.refusals.Refusal.{Refusal}
-use Rattle.stable_record.specs.declared.record.RecordError.{RecordError}
 use Rattle.stable_record.specs.declared.record.RecordError.TheVariants as errors
 use Rattle.stable_record.specs.Grammar.{IsStored}
 use Rattle.stable_record.specs.Behind.{behind}
 use Rattle.stable_record.specs.Floors.{front_of}
-use Rattle.stable_record.specs.Held.{Held, HasRead, Nature, refusal_of}
+use Rattle.stable_record.specs.Held.{Held, Nature}
 use Rattle.stable_record.proofs.Floors.{empty_stored, no_floor}
 use Rattle.xid.specs.Places.{Place}
 use Rattle.protocol.specs.declared.events.Event.TheVariants.{Tear}
@@ -39,7 +38,6 @@ use Rattle.floored.specs.Told.{told_at}
 use Rattle.node_core.specs.declared.config.Sizes.{Sizes}
 use Rattle.node_core.specs.Configs.{is_among, config_by}
 use Rattle.node_core.specs.Nodes.{NodeStands, AreSizes, MeansFrom, Holds}
-use Rattle.node_core.proofs.Loading.{read_faulted}
 use Rattle.node_core.proofs.Restarting.{opened_empty}
 use Rattle.node_core.specs.Opening.{HasFaulted, IsOpened, IsUnopened}
 use Rattle.network.specs.Networks.{NetworkParts, StandsFor}
@@ -125,13 +123,6 @@ unbegun config who held now after refusal same empty among un =
     (unbegun_behind config who now after refusal none among
     (subst (λ (f : Option Place). IsUnopened config who (behind (front_of f) now) (behind (front_of f) after) refusal)
     (no_floor now.bytes none) un.unopened))
-
--- why it isn't read
-pub unread : (held after : Held) (error : RecordError) (refusal : Refusal) → refusal ≡ refusal_of error
-    → HasRead {T = List ℕ} held after (Err error) → IsUnbegun held refusal
-unread held after errors.Fault refusal is read =
-    subst (λ (r : Refusal). IsUnbegun held r) (sym is) (after, read_faulted (List ℕ) held after read)
-unread held after errors.Memory refusal is read = subst (λ (r : Refusal). IsUnbegun held r) (sym is) tt
 
 -- ---- one node after another
 

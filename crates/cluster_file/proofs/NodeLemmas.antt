@@ -81,11 +81,6 @@ pub rows_end : (path : List ℕ) (before : List Row) → rows_from path no_membe
 unfolding rows_from
 rows_end path before = ap (λ ys. Ok ys) (append-nil before)
 
--- what nothing stands before
-pub none_before : {A : Type 0} (said : Result (List A) Mistake) → said ≡ said >>= (λ more. Ok ([] ++ more))
-none_before (Ok xs) = refl
-none_before (Err mistake) = refl
-
 -- ---- nodes
 
 pub no_node : (kind : Kind) (nodes clients : Bool) (index : ℕ) (value : Data) → None ≡ as_table value
@@ -165,17 +160,6 @@ pub record ReadSoFar (said rest : Result (List Node) Mistake) (places more_place
   pub found : more_places ≡ places ++ map (λ node. node.0) nodes
   pub tables : more_rows ≡ rows ++ map (λ node. node.1) nodes
   pub many : count ≡ length nodes
-
--- none yet
-pub none_read : (said : Result (List Node) Mistake) (places : List Place) (rows : List (List Row))
-    → ReadSoFar said said places places rows rows 0
-none_read said places rows = record {
-  nodes = [];
-  step = none_before said;
-  found = sym (append-nil places);
-  tables = sym (append-nil rows);
-  many = refl;
-}
 
 map-push : {A B : Type 0} (f : A → B) (xs : List A) (x : A) → map f (xs ++ x ∷ []) ≡ map f xs ++ f x ∷ []
 map-push f [] x = refl

@@ -103,15 +103,6 @@ unopened_as config who old b left new refusal taken u held bytes =
       begins = inr (record { rest = left.held.bytes; same = bytes ∙ ap (λ (xs : List ℕ). xs ++ left.held.bytes) front });
     }
 
--- ---- taken apart
-
-module _ (node : NodeParts) (known : Option Place) (sound : IsFlooredSound known node) (left : BehindParts) (new : Held)
-    (held_is : left.held ≡ node.held) (held : behind (front_of left.floor) new ≡ left.held) where
-  front_is : front_of left.floor ≡ front_of (floor_before node.held)
-  front_is =
-      same_front (front_of (floor_before node.held)) new left sound.front.beneath held
-      (ap (λ (h : Held). h.nature.fronts) held_is ∙ sound.front.fronts_are)
-
 -- ---- a tear
 
 module _ (old new : NodeParts) (n : ℕ) (same : IsSameNode old new)

@@ -1,5 +1,5 @@
 -- A node with a floor does what a node does, or nothing.
-use Rattle.std.proofs.Common.{◌≡◌, ◌⊎◌, inl, inr, ◌∙◌, Bool, true, false, not, ◌&&◌, ◌||◌, if◌then◌else◌, List, [], ◌∷◌, ◌++◌, Option, Some}
+use Rattle.std.proofs.Common.{◌≡◌, ◌⊎◌, inl, inr, ◌∙◌, Bool, true, false, not, ◌&&◌, if◌then◌else◌, List, [], ◌∷◌, ◌++◌, Option, Some}
 use Rattle.std.proofs.Common.{None, ℕ, is_some, refl, sym, ap, subst}
 use Rattle.std.specs.Prelude.{IfSome, map}
 use Rattle.std.specs.Option.{option_to_list}
@@ -90,12 +90,6 @@ module _ (config : Config) (who : NodeId) (floor : Option Place) (node : NodeSta
       else if not node.up then answer_outcome node (down_answer input)
       else if b then answer_outcome node (forgotten_answer input)
       else ended) e
-
--- ---- one more fact
-
-or_none : (b : Bool) → (b || false) ≡ b
-or_none true = refl
-or_none false = refl
 
 -- ---- views
 

@@ -1,12 +1,10 @@
 -- The first message of what is left of a letter: where one begins, and that it is one alone. What takes letters apart rests on it.
-use Rattle.std.proofs.Common.{◌≡◌, ◌∙◌, ℕ, ◌+◌, ◌<◌, ◌≤◌, ◌^◌, List, ◌++◌, length, take, drop, sym, ap, arith}
+use Rattle.std.proofs.Common.{◌≡◌, ◌∙◌, ℕ, ◌+◌, List, ◌++◌, length, take, drop, sym, ap, arith}
 use Rattle.std.proofs.Common.{append_assoc}
-use Rattle.std.proofs.lemmas.List.{take-append-drop, length-take, drop_at}
+use Rattle.std.proofs.lemmas.List.{drop_at}
 use Rattle.std.proofs.Math.Seq.{take-append_seam, drop-append_seam}
 use Rattle.byteorder.specs.Endian.{big_number, big_bytes}
 use Rattle.byteorder.specs.Numbers.{big_number-reads_back, length-bytes_high_first}
-use Rattle.xid.specs.Names.{IsBytes}
-use Rattle.wire.proofs.Spelled.{two}
 use Rattle.letters.specs.Letters.{HasFirstMessage}
 
 -- what a message's length and its bytes read as
@@ -19,21 +17,6 @@ pub behind_length : (message more rest : List ℕ) → HasFirstMessage message m
 behind_length message more rest first =
     ap (drop 2) (first.is ∙ append_assoc (big_bytes 2 (length message)) message more)
     ∙ drop_at (big_bytes 2 (length message)) (message ++ more) 2 (length-bytes_high_first 2 (length message))
-
--- where as many bytes follow as a length says, they are the first message
-pub first_of : (rest : List ℕ) → IsBytes rest → 2 ≤ length rest → big_number 2 rest < 2 ^ 16 → big_number 2 rest ≤ length (drop 2 rest)
-    → HasFirstMessage (take (big_number 2 rest) (drop 2 rest)) (drop (big_number 2 rest) (drop 2 rest)) rest
-first_of rest bytes long short le =
-    let n : ℕ = big_number 2 rest in
-    let behind : List ℕ = drop 2 rest in
-    let len : length (take n behind) ≡ n = omega (arith, length-take n behind, le) in
-    let parts : behind ≡ take n behind ++ drop n behind = sym (take-append-drop n behind) in record {
-      short = omega (arith, len, short);
-      is = two rest bytes long
-          ∙ ap (λ (xs : List ℕ). big_bytes 2 n ++ xs) parts
-          ∙ sym (append_assoc (big_bytes 2 n) (take n behind) (drop n behind))
-          ∙ ap (λ (k : ℕ). (big_bytes 2 k ++ take n behind) ++ drop n behind) (sym len);
-    }
 
 -- one message is first, and one text follows it
 pub firsts_are_one : (message more message' more' rest : List ℕ) → HasFirstMessage message more rest → HasFirstMessage message' more' rest

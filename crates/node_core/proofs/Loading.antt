@@ -14,7 +14,7 @@ use Rattle.stable_record.specs.declared.fact.FactKind.{FactKind as Fact}
 use Rattle.stable_record.specs.declared.record.RecordError.{RecordError}
 use Rattle.stable_record.specs.declared.record.RecordError.TheVariants.{Fault, Memory}
 use Rattle.stable_record.specs.Grammar.{IsStored, frame}
-use Rattle.stable_record.specs.Held.{Held, HasRead, HasPut, IsCounted, refusal_of, with_bytes}
+use Rattle.stable_record.specs.Held.{Held, HasPut, IsCounted, refusal_of, with_bytes}
 use Rattle.stable_record.proofs.Framed.{taken_stored, stored_same, one_stored, stored_joined, empty_tail}
 use Rattle.stable_record.proofs.Lengths.{entry_in_version_2}
 use Rattle.protocol.specs.declared.nodes.NodeId.{NodeId}
@@ -24,7 +24,7 @@ use Rattle.protocol.specs.Effects.{Config}
 use Rattle.resource_manager.specs.Compacted.{IsCompacted, row_entry, is_about_tx, facts_of}
 use Rattle.node_core.specs.declared.role.Role.{Role}
 use Rattle.node_core.specs.Nodes.{Kept, MeansFrom, Holds}
-use Rattle.node_core.specs.Opening.{IsBad, IsRecordRead, Reads, HasStayed, HasFaulted, Loads, frames_of, IsReplaced, Rewrites}
+use Rattle.node_core.specs.Opening.{IsBad, IsRecordRead, Reads, HasStayed, Loads, frames_of, IsReplaced, Rewrites}
 use Rattle.node_core.specs.Opening.{IsUntailed, IsTrimmed, IsLeftOver}
 use Rattle.node_core.proofs.Rows.{same_row}
 use Rattle.node_core.proofs.Starting.{of_facts}
@@ -122,16 +122,6 @@ stayed_same old new is = record {
   faults = ap (λ (r : Held). r.faults) is;
   nature = ap (λ (r : Held). r.nature) is;
   holds = λ c w kept tail h. (tail, subst (λ (r : Held). Holds c w r.bytes kept tail) (sym is) h);
-}
-
--- a read that failed
-pub read_faulted : (T : Type 0) (old new : Held) → HasRead {T = T} old new (Err Fault) → HasFaulted old new
-read_faulted T old new h = record {
-  may = h.may;
-  counted = h.counted;
-  armed = h.armed;
-  nature = h.nature;
-  holds = λ c w kept tail k. (tail, subst (λ bytes. Holds c w bytes kept tail) (sym (either_same new.bytes old.bytes h.bytes)) k);
 }
 
 module _ (config : Config) (who : NodeId) (own : List Row) (old : Held) where

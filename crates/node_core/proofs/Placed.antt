@@ -17,9 +17,6 @@ count_of config = config.acceptors + config.leaders + config.managers
 
 -- the names of places
 module _ (config : Config) (at : ℕ) where
-  abbrev is_acceptor : Bool
-  is_acceptor = nat_lt at config.acceptors
-
   abbrev is_leader : Bool
   is_leader = nat_lt at (config.acceptors + config.leaders)
 

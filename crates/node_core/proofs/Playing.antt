@@ -198,14 +198,6 @@ leader_refused old new fact r e is h config (L l) facts memory s fits idle ready
     (ready config l memory.leader) in
     absurd (cc (t.done, is))
 
-abbrev pub IsNoBallot : Fact → Type 0
-IsNoBallot fact = (tx : TxParts) (b : ℕ) → fact ≡ Fact.Ballot tx b → ⊥
-
-no_ballot : (leaders l : ℕ) (facts : List Fact) (fact : Fact) → IsNoBallot fact
-    → plays_at_leader leaders l (last_ballot facts) fact ≡ true → ⊥
-no_ballot leaders l facts (Fact.Ballot tx b) none h = none tx b refl
-no_ballot leaders l facts other none h = absurd (cc (h))
-
 -- ---- replayed
 
 -- what a part says of a fact is what its role says

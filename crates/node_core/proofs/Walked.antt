@@ -190,10 +190,6 @@ module _ (config : Config) (who : NodeId) (sizes : Sizes) (own : List Row) (are 
           reply_is = stops.1;
         }
 
--- at first
-pub reaches_none : (config : Config) (who : NodeId) (own : List Row) (from : Place) → Reaches config who own from [] [] from.role from.held
-reaches_none config who own from = record { to = from; runs = refl; role_is = refl; held_is = refl; same = refl }
-
 -- all were handled
 pub stored_each : (config : Config) (who : NodeId) (own : List Row) (from : Place) (inputs : List Input) (outs : List Output)
     (role : Option Role) (held : Held) → Reaches config who own from inputs outs role held

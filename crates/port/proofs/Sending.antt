@@ -1,7 +1,6 @@
 -- Datagrams that go out by a port, one send after another.
 -- Needed by 7 functions of this crate.
 use Rattle.std.proofs.Common.{◌≡◌, ◌∙◌, ℕ, ◌+◌, ◌<◌, List, [], ◌∷◌, ◌++◌, length, map, take, get_or, refl, sym, ap, subst, Result}
-use Rattle.std.proofs.Common.{None}
 use Rattle.std.specs.List.{flat_map}
 use Rattle.std.proofs.lemmas.Grind.{flat_map-append}
 use Rattle.std.proofs.lemmas.List.{append-nil, map_push, take_more}
@@ -15,11 +14,8 @@ use Rattle.protocol.specs.Worlds.{Datagram}
 use Rattle.node_core.specs.declared.config.Sizes.{Sizes}
 use Rattle.node_core.specs.Configs.{config_by}
 use Rattle.node_core.specs.Nodes.{AreSizes}
-use Rattle.protocol.specs.declared.answers.Answer.TheVariants.{Refused}
-use Rattle.protocol.specs.Nodes.{Input}
 use Rattle.node_core.specs.declared.output.Output.{Output}
 use Rattle.node_core.proofs.Addressed.{datagrams_as}
-use Rattle.node_core.specs.Storing.{output_of}
 use Rattle.port.specs.Calls.{Sending, SendsAll, SendsTo, TellsAll, datagrams_from}
 
 module _ {P : Type 0} (Sent : Sending P) where
@@ -86,17 +82,3 @@ pub all_datagrams_as : (config : Config) (sizes : Sizes) → AreSizes config siz
 all_datagrams_as config sizes are who [] = refl
 all_datagrams_as config sizes are who (out ∷ outs) =
     λ i. datagrams_as config sizes are who out.sends i ++ all_datagrams_as config sizes are who outs i
-
--- nothing came of inputs that were refused
-pub nothing_from : (config : Config) (who : NodeId) (refusal : Refusal) (inputs : List Input)
-    → flat_map (datagrams_from config who) (map (λ (input : Input). output_of (Refused refusal) None) inputs) ≡ []
-nothing_from config who refusal [] = refl
-nothing_from config who refusal (input ∷ inputs) = nothing_from config who refusal inputs
-
--- so nothing is sent
-pub nothing_sent : {P : Type 0} (Sent : Sending P) (config : Config) (who : NodeId) (refusal : Refusal) (inputs : List Input)
-    (outs : List Output) (port : P) → outs ≡ map (λ (input : Input). output_of (Refused refusal) None) inputs
-    → SendsAll Sent port port (flat_map (datagrams_from config who) outs)
-nothing_sent Sent config who refusal inputs outs port is =
-    subst (λ (ds : List Datagram). SendsAll Sent port port ds)
-    (sym (ap (flat_map (datagrams_from config who)) is ∙ nothing_from config who refusal inputs)) refl

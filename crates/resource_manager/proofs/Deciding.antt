@@ -362,14 +362,6 @@ module _ (m : ManagerParts) (tx : TxParts) (config : Config) (number : ℕ) (fac
       (subst (IsReminder (record { answer = answer; vote = first; question = second }) branches) (sym f)
       (record { answer = refl; sends = refl; fact = refl; memory = refl }))
 
-  pub timeout_outside : (reminder : Reminder) (t : Bool) → t ≡ are_below m.managers (participants tx) → t ≡ false
-      → reminder ≡ record { answer = Refused Refusal.BadTx; vote = []; question = [] }
-      → IsReminder reminder branches (on_manager_timeout config number (stored_votes number facts) branches tx)
-  timeout_outside reminder t below outside e =
-      reminds reminder _ (Refused Refusal.BadTx) [] [] e
-      (timeout_is false (vote_in facts tx) (is_prepared_view (view facts tx))
-      (inside_is config m.managers tx t stands.managers_are below ∙ outside) refl refl)
-
   unvoted_stranger : is_participant tx number ≡ false → (vote_in facts tx ≡ None) × (is_prepared_view (view facts tx) ≡ false)
   unvoted_stranger stranger = (
     by (vote_in facts tx) refl,

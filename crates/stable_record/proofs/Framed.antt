@@ -1,6 +1,6 @@
 -- Frames one after the other: what stands at the front of bytes is known, and so what bytes hold.
 -- Needed by 7 functions of this crate; Floors and Written; crate node_core.
-use Rattle.std.proofs.Common.{◌≡◌, ◌≢◌, ℕ, zero, suc, ◌+◌, ◌-◌, ◌<◌, ◌≤◌, Bool, true, false, cond, ltb, List, [], ◌∷◌, ◌++◌, length, take}
+use Rattle.std.proofs.Common.{◌≡◌, ℕ, zero, suc, ◌+◌, ◌-◌, ◌<◌, ◌≤◌, Bool, true, false, cond, ltb, List, [], ◌∷◌, ◌++◌, length, take}
 use Rattle.std.proofs.Common.{drop, Option, Some, None}
 use Rattle.std.proofs.Common.{◌⊎◌, inl, inr, refl, sym, subst, ap, ◌∙◌, append_assoc, arith}
 use Rattle.std.proofs.lemmas.Bool.Decides.{nat_tests}
@@ -163,18 +163,6 @@ module _ (bytes : List ℕ) (n : ℕ) (rest : List ℕ) (e : number_at bytes ≡
   -- and none that is longer than a body may be
   pub too_long : most_body < n → HasNoFrame bytes
   too_long big = wrong_length (inr big)
-
-  pub cut_tail : n ≢ 0 → n ≤ most_body → length rest < n → IsTail bytes
-  cut_tail some few short =
-      let head = head_of bytes n rest e in
-      let len = lengths bytes n rest e in
-      let more : 1 ≤ n = omega (arith, some) in
-      inr (record {
-        head = head.long;
-        some = omega (arith, more, head.number);
-        few = omega (arith, few, head.number);
-        cut = omega (arith, short, len, head.number);
-      })
 
   -- bytes whose body is no entry's have no frame in front
   pub bad_body : n ≤ length rest → body_at (take n rest) ≡ None → HasNoFrame bytes

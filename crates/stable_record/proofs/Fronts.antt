@@ -1,7 +1,7 @@
 -- What the calls of a record make of what it holds behind a front.
 -- Needed by Known.
 use Rattle.std.proofs.Common.{◌≡◌, ◌∙◌, ℕ, suc, ◌+◌, List, [], ◌∷◌, ◌++◌, length, take, drop, ◌⊎◌, inl, inr, refl, sym, ap, subst}
-use Rattle.std.proofs.Common.{append_assoc, arith}
+use Rattle.std.proofs.Common.{arith}
 use Rattle.std.specs.Prelude.{Result, Ok, Err}
 use Rattle.std.proofs.lemmas.List.{drop_at}
 use Rattle.stable_record.specs.declared.record.RecordError.{RecordError}
@@ -40,20 +40,6 @@ module _ (front : List ℕ) (old new : Held) where
   -- the bytes behind the front, where they begin with it
   pub rest_is : (begins : BeginsWith front old.bytes) → drop (length front) old.bytes ≡ begins.rest
   rest_is begins = ap (drop (length front)) begins.same ∙ drop_at front begins.rest (length front) refl
-
-  added_bytes : (text : List ℕ) → BeginsWith front old.bytes → new.bytes ≡ old.bytes ++ text
-      → drop (length front) new.bytes ≡ drop (length front) old.bytes ++ text
-  added_bytes text begins e =
-      let whole : new.bytes ≡ front ++ (begins.rest ++ text) =
-      e ∙ ap (λ (xs : List ℕ). xs ++ text) begins.same ∙ append_assoc front begins.rest text in
-      ap (drop (length front)) whole ∙ drop_at front (begins.rest ++ text) (length front) refl
-      ∙ ap (λ (xs : List ℕ). xs ++ text) (sym (rest_is begins))
-
-  longer : (text : List ℕ) → BeginsWith front old.bytes → new.bytes ≡ old.bytes ++ text → BeginsWith front new.bytes
-  longer text begins e = record {
-    rest = begins.rest ++ text;
-    same = e ∙ ap (λ (xs : List ℕ). xs ++ text) begins.same ∙ append_assoc front begins.rest text;
-  }
 
   pub put_behind : (next : List ℕ) (result : Result (Unit {0}) RecordError) → HasPut (front ++ next) old new result
       → HasPut next (behind front old) (behind front new) result

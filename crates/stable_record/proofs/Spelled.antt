@@ -167,13 +167,6 @@ keys_spelled bytes x is e =
     (are, subst (λ (n : ℕ). Front bytes (n ∷ flat_map touched_spelling keys.0) keys.1) (sym all.counted) front)))
 
 -- a number that was taken fits its bytes
-fits_4 : (bytes : List ℕ) → IsBytes bytes → 4 ≤ length bytes → big_number 4 bytes < 2 ^ 32
-fits_4 [] is le = absurd (omega arith)
-fits_4 (a ∷ []) is le = absurd (omega arith)
-fits_4 (a ∷ b ∷ []) is le = absurd (omega arith)
-fits_4 (a ∷ b ∷ c ∷ []) is le = absurd (omega arith)
-fits_4 (a ∷ b ∷ c ∷ d ∷ rest) is le = omega (arith, is 0, is 1, is 2, is 3)
-
 fits_2 : (bytes : List ℕ) → IsBytes bytes → 2 ≤ length bytes → big_number 2 bytes < 256 ^ 2
 fits_2 [] is le = absurd (omega arith)
 fits_2 (a ∷ []) is le = absurd (omega arith)

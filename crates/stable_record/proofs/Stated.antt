@@ -8,9 +8,8 @@ use Rattle.stable_record.specs.declared.entry.EntryKind.{EntryKind as Entry}
 use Rattle.stable_record.specs.declared.fact.FactKind.{FactKind as Fact}
 use Rattle.stable_record.specs.declared.view.FactRest.{FactRest}
 use Rattle.stable_record.specs.declared.view.FactRest.TheVariants as rests
-use Rattle.stable_record.specs.Facts.{IsFact}
 use Rattle.stable_record.specs.Grammar.{frame, body_spelling}
-use Rattle.stable_record.specs.Rests.{fact_of, any_byte, any_spelling, HasVoteKeys}
+use Rattle.stable_record.specs.Rests.{fact_of, any_byte, any_spelling}
 
 pub any_body : (tx : TxParts) (rest : FactRest)
     → body_spelling version_2 (Entry.Fact (fact_of tx rest)) ≡ version_2.byte ∷ any_byte rest ∷
@@ -23,17 +22,6 @@ any_body tx rests.VoteAborted = refl
 any_body tx rests.Committed = refl
 any_body tx rests.Aborted = refl
 any_body tx (rests.PromiseAll ballot) = refl
-
--- a fact with keys has those of a vote
-pub vote_keys : (tx : TxParts) (rest : FactRest) → IsFact (fact_of tx rest) → HasVoteKeys rest
-vote_keys tx (rests.VotePrepared keys) is = is.1
-vote_keys tx (rests.Promise instance ballot) is = tt
-vote_keys tx (rests.Accept instance ballot vote) is = tt
-vote_keys tx (rests.Ballot ballot) is = tt
-vote_keys tx rests.VoteAborted is = tt
-vote_keys tx rests.Committed is = tt
-vote_keys tx rests.Aborted is = tt
-vote_keys tx (rests.PromiseAll ballot) is = tt
 
 -- what was put at the end, one after the other, is the frame of a fact with this body
 pub framed_by : (old a b c d : List ℕ) (n : ℕ) (tx : TxParts) (spelled : List ℕ) (code : ℕ) (rest : List ℕ) (fact : Fact)

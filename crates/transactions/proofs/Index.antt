@@ -72,12 +72,6 @@ module _ {K : Type 0} (bytes : K → List ℕ) where
       by true here e = ap (is_at bytes keys k) (sym (some_same p n e)) ∙ here
       by false here e = told n e
 
-  -- what a hint comes to
-  pub found_by : (keys : List K) (k : List ℕ) (hint other : Option ℕ) (p : ℕ) (b : Bool) → Some p ≡ hint → is_at bytes keys k p ≡ b
-      → (if b then Some p else other) ≡ found bytes keys k hint other
-  found_by keys k hint other p b says here =
-      ap (λ (b : Bool). if b then Some p else other) (sym here) ∙ ap (λ (h : Option ℕ). found bytes keys k h other) says
-
   -- ---- the first place of bytes
 
   abbrev test : List ℕ → K → Bool

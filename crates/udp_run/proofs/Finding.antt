@@ -7,7 +7,7 @@ use Rattle.std.specs.Option.{option_and_then}
 use Rattle.std.proofs.lemmas.Bool.{and_parts, cases_lt, lt-ltb, le-ltb, ltb-true}
 use Rattle.std.proofs.lemmas.Bool.Decides.{nat_tests}
 use Rattle.std.proofs.lemmas.List.{get_or_append_left, get_or_push, length_push, length-set, length-map, get_or-set_same}
-use Rattle.std.proofs.lemmas.List.{get_or-map, get_or-drop, take_more_set, take_all, drop_more, drop-set-lt, map_more}
+use Rattle.std.proofs.lemmas.List.{get_or-map, get_or-drop, take_more_set, drop_more, drop-set-lt, map_more}
 use Rattle.std.proofs.lemmas.Option.{slice_get-get_or}
 use Rattle.xid.specs.Limits.{most_leaders, most_managers}
 use Rattle.branch_table.specs.TableStates.{are_rows}
@@ -242,12 +242,6 @@ module _ (addresses : Addresses) (at : ℕ) (start now : List UdpPort) (was : Ud
     rest = drop-set-lt (at + 1) now at new (omega arith) ∙ behind;
     long = length-set now at new ∙ so.long;
   }
-
-pub all_told : (addresses : Addresses) (at : ℕ) (start now : List UdpPort) → length now ≤ at → KnowAddresses addresses at start now
-    → now ≡ map (finding addresses) start
-all_told addresses at start now end so =
-    let long : length now ≡ length start = so.long in
-    sym (take_all at now end) ∙ so.told ∙ ap (map (finding addresses)) (take_all at start (omega (arith, end, long)))
 
 -- ---- all of them
 
