@@ -1,8 +1,7 @@
 -- The order of rows.
-use Rattle.std.specs.Prelude.{Bool, ◌==◌, List}
+use Rattle.std.specs.Prelude.{Bool, ◌==◌}
 use Rattle.std.specs.Ordering.{nat_cmp, on, then_cmp, eq_of_both}
 use Rattle.std.specs.Cmp.Lexicographic.{slice_cmp, pointwise}
-use Rattle.std.specs.List.Sorted.{IsSorted, IsPermutation}
 use Rattle.std.specs.declared.cmp.Ordering.{Ordering}
 use Rattle.protocol.specs.Vocabulary.{Row}
 
@@ -13,8 +12,3 @@ row_eq = eq_of_both (on (λ r. r.key) (pointwise ◌==◌)) (on (λ r. r.value) 
 -- rows are in the order of their keys, byte by byte, and then of their values
 abbrev pub row_cmp : Row → Row → Ordering
 row_cmp = then_cmp (on (λ r. r.key) (slice_cmp nat_cmp)) (on (λ r. r.value) (slice_cmp nat_cmp))
-
--- a table is these rows in order
-pub record IsTableOf (rows table : List Row) : Type 0 where
-  pub same : IsPermutation rows table
-  pub ordered : IsSorted row_cmp table
