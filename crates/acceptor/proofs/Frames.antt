@@ -1,7 +1,6 @@
 -- What an acceptor writes, frame by frame.
 -- Needed by `write_accept`, `write_common` and `write_promise`.
-use Rattle.std.proofs.Common.{◌≡◌, ◌∙◌, ℕ, ◌<◌, max, Bool, true, List, [], ◌∷◌, ◌++◌, Some, sym, ap, subst}
-use Rattle.std.proofs.Common.{arith}
+use Rattle.std.proofs.Common.{◌≡◌, ◌∙◌, ℕ, ◌<◌, max, Bool, true, List, [], ◌∷◌, ◌++◌, Some, sym, ap, subst, arith}
 use Rattle.std.specs.Prelude.{OnOk, Result, Ok, Err, nat_lt, if◌then◌else◌}
 use Rattle.std.proofs.lemmas.Bool.Decides.{nat_tests}
 use Rattle.xid.specs.declared.refusals.Refusal.{Refusal}

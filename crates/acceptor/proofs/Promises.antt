@@ -1,7 +1,6 @@
 -- A change of each of a list, one place after the other.
 -- Needed by `promise_all`.
-use Rattle.std.proofs.Common.{◌≡◌, ◌∙◌, ℕ, zero, suc, ◌+◌, ◌<◌, List, [], ◌∷◌, ◌++◌, length, get_or, take, drop, map, set, refl, ap}
-use Rattle.std.proofs.Common.{arith}
+use Rattle.std.proofs.Common.{◌≡◌, ◌∙◌, ℕ, zero, suc, ◌+◌, ◌<◌, List, [], ◌∷◌, ◌++◌, length, get_or, take, drop, map, set, refl, ap, arith}
 
 module _ {X : Type 0} (f : X → X) where
   -- those before a place are changed

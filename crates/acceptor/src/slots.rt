@@ -5,8 +5,7 @@ ghost use Rattle.stable_record.specs.declared.fact.FactKind.TheVariants.{Promise
 ghost use Rattle.stable_record.specs.Facts.{fact_tx};
 ghost use Rattle.stable_record.specs.Rests.{fact_of};
 ghost use Rattle.protocol.specs.Acceptors.{is_accepted as is_accepted_in, plays_at_acceptor};
-ghost use Rattle.acceptor.specs.Slots.{IsKept, slot_at as slot_at_place, slot_of as slot_of_instance, slots_of};
-ghost use Rattle.acceptor.specs.Slots.{slots_after};
+ghost use Rattle.acceptor.specs.Slots.{IsKept, slot_at as slot_at_place, slot_of as slot_of_instance, slots_of, slots_after};
 
 use crate::bundles::reports_below;
 use ballot::Slot;

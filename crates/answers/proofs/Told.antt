@@ -1,6 +1,5 @@
 -- What a leader's answer rests on: the accepts that it heard, which were sent.
-use Rattle.std.proofs.Common.{◌≡◌, inl, inr, ℕ, Bool, true, false, not, if◌then◌else◌, IsTrue, List}
-use Rattle.std.proofs.Common.{Option, Some, None, refl, subst}
+use Rattle.std.proofs.Common.{◌≡◌, inl, inr, ℕ, Bool, true, false, not, if◌then◌else◌, IsTrue, List, Option, Some, None, refl, subst}
 use Rattle.std.proofs.lemmas.Bool.{cond_both}
 use Rattle.xid.specs.Transactions.{TxParts, is_participant}
 use Rattle.xid.specs.declared.refusals.Refusal.TheVariants.{NoSuch}

@@ -1,6 +1,5 @@
 -- What an auditor keeps of floors after an event: for `Floors` and `ToldFloors`.
-use Rattle.std.proofs.Common.{◌≡◌, ◌∙◌, ℕ, ◌+◌, Bool, true, false, ◌==◌, cond, List, Option, Some, None}
-use Rattle.std.proofs.Common.{◌*◌, refl, sym, ap, subst, arith}
+use Rattle.std.proofs.Common.{◌≡◌, ◌∙◌, ℕ, ◌+◌, Bool, true, false, ◌==◌, cond, List, Option, Some, None, ◌*◌, refl, sym, ap, subst, arith}
 use Rattle.std.specs.Cmp.{unsigned_Decides}
 use Rattle.std.specs.Option.{option_map_or}
 use Rattle.xid.specs.Places.{Place}

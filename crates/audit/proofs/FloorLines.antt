@@ -7,10 +7,8 @@ use Rattle.std.specs.Option.{option_map_or}
 use Rattle.std.proofs.lemmas.Bool.{and_parts}
 use Rattle.std.proofs.lemmas.List.Sums.{fold_push}
 use Rattle.protocol.specs.Vocabulary.{Answer, Event, Change, Step}
-use Rattle.net_script.specs.declared.trace_lines.TraceLine.TheVariants.{Changed, Datagram}
-use Rattle.net_script.specs.declared.trace_lines.TraceLine.TheVariants.{Notice}
-use Rattle.net_script.specs.TraceReaders.{told_by, takes_notice, is_alone, last_of, with_now, with_sent, with_notice}
-use Rattle.net_script.specs.TraceReaders.{begun_with}
+use Rattle.net_script.specs.declared.trace_lines.TraceLine.TheVariants.{Changed, Datagram, Notice}
+use Rattle.net_script.specs.TraceReaders.{told_by, takes_notice, is_alone, last_of, with_now, with_sent, with_notice, begun_with}
 use Rattle.net_script.proofs.DraftLemmas.{serve_tells_none}
 use Rattle.protocol.specs.declared.events.Sent.{Sent}
 use Rattle.protocol.specs.declared.events.Told.{Told}
@@ -18,8 +16,7 @@ use Rattle.protocol.specs.declared.nodes.NodeId.{NodeId}
 use Rattle.net_script.specs.declared.values.Entry.{Entry}
 use Rattle.net_script.specs.declared.values.Trace.{Trace}
 use Rattle.audit.specs.Told.{step_of, history_of, each_step}
-use Rattle.audit.specs.Floors.{FloorsTold, floors_by, floors_back, or_newer, is_event_above, is_change_above, is_sent_above}
-use Rattle.audit.specs.Floors.{stays_above}
+use Rattle.audit.specs.Floors.{FloorsTold, floors_by, floors_back, or_newer, is_event_above, is_change_above, is_sent_above, stays_above}
 use Rattle.audit.specs.FloorBooks.{entry_of, place_of, floor_at, told_in, notice_at, or_earlier, floor_before, Keeps, HadBefore}
 use Rattle.audit.specs.FloorBooks.{FollowsFloors, HasHeardFloors, are_above}
 use Rattle.audit.specs.declared.floors.Floors.{Floors}

@@ -1,6 +1,5 @@
 -- What an auditor holds after each kind of line: for `Auditor::take` and its parts.
-use Rattle.std.proofs.Common.{◌≡◌, ◌∙◌, ℕ, Bool, true, false, ◌&&◌, eqb, cond, List, [], ◌∷◌, ◌++◌, Option, Some, None}
-use Rattle.std.proofs.Common.{Result, Ok, Err}
+use Rattle.std.proofs.Common.{◌≡◌, ◌∙◌, ℕ, Bool, true, false, ◌&&◌, eqb, cond, List, [], ◌∷◌, ◌++◌, Option, Some, None, Result, Ok, Err}
 use Rattle.std.proofs.Common.{refl, sym, ap, subst, length, inl, eqb-true}
 use Rattle.std.specs.Prelude.{IfErr, OnOk}
 use Rattle.std.specs.Option.{option_map_or}
@@ -14,8 +13,7 @@ use Rattle.net_script.specs.declared.trace_lines.TraceLine.TheVariants.{Notice, 
 use Rattle.net_script.specs.TraceReading.{RefusesTrace}
 use Rattle.net_script.specs.declared.so_far.LastEntry.{LastEntry}
 use Rattle.net_script.specs.TraceReaders.{filled_by, noticed_by, told_by, last_of, so_far_of, is_missing, is_alone, takes_sent}
-use Rattle.net_script.specs.TraceReaders.{takes_notice, may_follow, bare_step, with_now, with_sent, with_notice}
-use Rattle.net_script.specs.TraceReaders.{at_last, grown, begun_with}
+use Rattle.net_script.specs.TraceReaders.{takes_notice, may_follow, bare_step, with_now, with_sent, with_notice, at_last, grown, begun_with}
 use Rattle.net_script.specs.declared.trace_lines.TraceLine.{TraceLine}
 use Rattle.xid.specs.declared.refusals.Refusal.{Refusal}
 use Rattle.xid.specs.declared.refusals.Refusal.TheVariants.{NoMemory}

@@ -4,11 +4,10 @@ use Rattle.std.proofs.Common.{length, map, get_or, take, refl, sym, ap, arith}
 use Rattle.std.specs.List.{fold, list_all}
 use Rattle.std.proofs.lemmas.Bool.{ltb-true, ltb-false}
 use Rattle.std.proofs.Math.ListN.{get_or-eq_default}
-use Rattle.std.proofs.lemmas.List.{get_or-map, get_or-replicate, length-map, length-replicate}
+use Rattle.std.proofs.lemmas.List.{get_or-map, get_or-replicate, length-map, length-replicate, map-append}
 use Rattle.std.proofs.lemmas.List.Folds.{list_all_more}
 use Rattle.std.proofs.lemmas.List.Sums.{fold_more}
 use Rattle.std.proofs.Math.Seq.{take-suc}
-use Rattle.std.proofs.lemmas.List.{map-append}
 use Rattle.xid.specs.Transactions.{BranchParts, TxParts, participants, nth_branch}
 use Rattle.protocol.specs.Vocabulary.{Row, View}
 use Rattle.protocol.specs.Tables.{put_row}

@@ -29,8 +29,7 @@ use Rattle.history.proofs.Moves.{manager_in, branches_of, IsMove, Quiet, Restart
 use Rattle.history.proofs.Runs.{IsRun, AtFirst, Then}
 use Rattle.history.proofs.Told.{IsSound, IsTold, sound, told_ever, does_by, leaves}
 use Rattle.audit.specs.Stretches as stretches
-use Rattle.audit.specs.Stretches.{StretchParts, with_get, own_act, stretch_after, stretch_by, stretch_back, stretches_back}
-use Rattle.audit.specs.Stretches.{writes_at}
+use Rattle.audit.specs.Stretches.{StretchParts, with_get, own_act, stretch_after, stretch_by, stretch_back, stretches_back, writes_at}
 
 -- ---- one event
 

@@ -17,8 +17,7 @@ use Rattle.net_script.specs.declared.trace_lines.TraceLine.TheVariants.{Datagram
 use Rattle.net_script.specs.Telling.{sent_of, IsHeard}
 use Rattle.net_script.specs.Traces.{trace_text}
 use Rattle.net_script.specs.TraceLines.{whole_line, lines_of}
-use Rattle.net_script.specs.TraceReaders.{begun_with}
-use Rattle.net_script.specs.TraceReaders.{ReaderParts, HasRead, ReadsOn, IsRead}
+use Rattle.net_script.specs.TraceReaders.{begun_with, ReaderParts, HasRead, ReadsOn, IsRead}
 use Rattle.net_script.proofs.EndedText.{text_is_lines}
 use Rattle.xid.specs.declared.refusals.Refusal.{Refusal}
 use Rattle.net_script.specs.declared.values.Trace.{Trace}

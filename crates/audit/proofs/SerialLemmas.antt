@@ -7,13 +7,12 @@ use Rattle.std.specs.Option.{option_map, option_and_then, unwrap_or}
 use Rattle.std.proofs.lemmas.Bool.{ltb-true, ltb-false}
 use Rattle.std.proofs.Math.Seq.{take-suc}
 use Rattle.std.proofs.lemmas.List.{get_or-map, length-map}
-use Rattle.std.proofs.lemmas.List.Sums.{fold-append}
+use Rattle.std.proofs.lemmas.List.Sums.{fold-append, passes_at_first, prefix_len-le-length}
 use Rattle.std.proofs.lemmas.List.Elements.{filter-append}
 use Rattle.xid.proofs.Texts.{list_all_get}
 use Rattle.transactions.proofs.Before.{turned}
 use Rattle.protocol.specs.Vocabulary.{Step, Row, View}
 use Rattle.audit.proofs.ListLemmas.{all_next, all_fails, participant_at, participants_many}
-use Rattle.std.proofs.lemmas.List.Sums.{passes_at_first, prefix_len-le-length}
 use Rattle.std.specs.Cmp.{unsigned_Decides}
 use Rattle.xid.specs.Transactions.{BranchParts, is_at, rm_numbers, xid_of, TxParts, tx_eq, participants}
 use Rattle.xid.proofs.Deciding.{tx_self}

@@ -25,8 +25,7 @@ use Rattle.protocol.specs.Managers.{Branch, act_on, has_key, last_act, view_name
 use Rattle.protocol.proofs.TouchedKeys.{acts_touched, has_touched, untouched}
 use Rattle.branch_table.specs.OneCall.{Answers, IsHindered, SameView, view_with_act, view_after_done}
 use Rattle.branch_table.specs.TableStates.{TableState, AreHeldApart, ChangesOnly, Steps, branch_done, branch_named, can_be_rolled_back}
-use Rattle.branch_table.specs.TableStates.{in_state}
-use Rattle.branch_table.specs.TableStates.{is_active, with_act}
+use Rattle.branch_table.specs.TableStates.{in_state, is_active, with_act}
 use Rattle.branch_table.specs.Admission.{end_action, end_state, end_code, Admits, IsAdmitted, Meets, Touches}
 use Rattle.branch_table.specs.Parts.{hold_of}
 use Rattle.branch_table.specs.declared.hold.Hold.{Hold}

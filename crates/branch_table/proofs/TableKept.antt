@@ -22,8 +22,7 @@ use Rattle.branch_table.specs.Outcomes.{AreHindered, CanBePrepared, prepared_bra
 use Rattle.branch_table.specs.TableStates.{AreHeldApart, AreTableBranches, branch_named, in_state, is_idle, with_act}
 use Rattle.branch_table.specs.Admission.{IsAdmitted}
 use Rattle.branch_table.specs.Parts.{AddsHolders, AreHolds, free, Replaces, TakesHolders, hold_at, hold_more, is_using, uses_by, uses_held}
-use Rattle.branch_table.specs.Parts.{uses_in}
-use Rattle.branch_table.specs.Parts.{uses_of}
+use Rattle.branch_table.specs.Parts.{uses_in, uses_of}
 use Rattle.branch_table.specs.declared.hold.Hold.{Hold}
 use Rattle.branch_table.proofs.Hindered.{own_within}
 use Rattle.branch_table.proofs.TableRows.{Known}

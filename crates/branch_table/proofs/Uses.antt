@@ -1,7 +1,7 @@
 -- What touched keys, which ascend, use of a key: after one more act, and one key after the other.
 -- Needed by 8 functions of this crate; Hindered, OutcomeSteps and TableKept.
 use Rattle.std.proofs.Common.{◌≡◌, ◌∙◌, ℕ, zero, suc, ◌+◌, ◌-◌, ◌^◌, ◌≤◌, ◌<◌, Bool, true, false, not, ◌&&◌, ◌||◌, ◌==◌, cond, ltb, List}
-use Rattle.std.proofs.Common.{[], ◌∷◌, length, get_or, take, drop, refl, sym, ap, subst, arith}
+use Rattle.std.proofs.Common.{[], ◌∷◌, length, get_or, take, drop, refl, sym, ap, subst, arith, Some, Result, Ok, Err}
 use Rattle.std.specs.List.{AllByRecursion}
 use Rattle.std.proofs.Math.Seq.{drop-cons}
 use Rattle.std.specs.Cmp.Lexicographic.{slice_cmp}
@@ -16,13 +16,11 @@ use Rattle.stable_record.specs.Facts.{AreAscending, AreKeys, IsTouched, IsKey, I
 use Rattle.protocol.specs.declared.states.BranchState.{BranchState}
 use Rattle.protocol.specs.Branches.{is_write}
 use Rattle.protocol.specs.Managers.{Branch, act_on, has_key, last_act, with_touched}
-use Rattle.protocol.proofs.TouchedKeys.{acts_touched, counts_touched, has_touched, tail_ascends, untouched}
+use Rattle.protocol.proofs.TouchedKeys.{acts_touched, counts_touched, has_touched, tail_ascends, untouched, changed_ascends}
 use Rattle.protocol.specs.declared.requests.Action.TheVariants.{Put, Del, Get}
-use Rattle.protocol.proofs.TouchedKeys.{changed_ascends}
 use Rattle.protocol.proofs.Manager.Keys.{first_once}
 use Rattle.branch_table.specs.Outcomes.{looks_after}
 use Rattle.branch_table.specs.Parts.{free, hold_by, hold_more, hold_of, more_by, uses_by, uses_held, uses_of}
-use Rattle.std.proofs.Common.{Some, Result, Ok, Err}
 use Rattle.std.specs.Prelude.{OnOk, IfErr}
 use Rattle.xid.specs.declared.refusals.Refusal.{Refusal}
 use Rattle.xid.specs.declared.refusals.Refusal.TheVariants.{NoMemory}

@@ -10,8 +10,7 @@ ghost use Rattle.protocol.specs.Managers.{idle_keys, view_named};
 ghost use Rattle.branch_table.specs.OneCall.{IsHindered};
 ghost use Rattle.protocol.specs.declared.answers.Answer.TheVariants as answers;
 ghost use Rattle.branch_table.specs.TableStates.{AreTableBranches, branch_named};
-ghost use Rattle.branch_table.specs.Outcomes.{AreHindered, AreRecovered, Commits, IsRestored, RefusesRestore, Undoes};
-ghost use Rattle.branch_table.specs.Outcomes.{keys_named};
+ghost use Rattle.branch_table.specs.Outcomes.{AreHindered, AreRecovered, Commits, IsRestored, RefusesRestore, Undoes, keys_named};
 
 use crate::branch::Branch;
 use crate::hold::Hold;

@@ -1,7 +1,6 @@
 -- A cluster is asked about a resource manager: it stays what it is.
 -- Needed by `Cluster::table`, `Cluster::view`, `table` and `view`.
-use Rattle.std.proofs.Common.{◌≡◌, ◌⊎◌, inl, inr, ◌∙◌, ℕ, List, get_or, set, []}
-use Rattle.std.proofs.Common.{Option, Some, None, refl, sym, ap, subst}
+use Rattle.std.proofs.Common.{◌≡◌, ◌⊎◌, inl, inr, ◌∙◌, ℕ, List, get_or, set, [], Option, Some, None, refl, sym, ap, subst}
 use Rattle.std.specs.Prelude.{slice_get, Result, Err}
 use Rattle.std.proofs.lemmas.List.{set-get_or}
 use Rattle.xid.specs.Transactions.{TxParts}

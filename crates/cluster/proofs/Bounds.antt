@@ -1,11 +1,9 @@
 -- How many datagrams a node sends at most.
 -- Needed by `most_asked` and `most_heard`; Handed and Reaching.
 use Rattle.std.proofs.Common.{◌≡◌, ◌∙◌, ℕ, zero, suc, ◌+◌, ◌*◌, ◌<◌, ◌≤◌, Bool, true, false, if◌then◌else◌, not, List, [], ◌∷◌, ◌++◌}
-use Rattle.std.proofs.Common.{length, map}
-use Rattle.std.proofs.Common.{Option, Some, None, refl, sym, ap, subst, length-append, arith}
+use Rattle.std.proofs.Common.{length, map, Option, Some, None, refl, sym, ap, subst, length-append, arith}
 use Rattle.std.specs.Prelude.{filter_map, ◌||◌, ◌^◌, nat_lt, nat_le, is_some}
-use Rattle.std.specs.List.{list_all}
-use Rattle.std.specs.List.{flat_map, cons_option}
+use Rattle.std.specs.List.{list_all, flat_map, cons_option}
 use Rattle.std.proofs.Math.Nat.{mul-le-mul_left, mul-le-mul_right, suc-mul, zero-mul}
 use Rattle.std.proofs.lemmas.Grind.{flat_map-append}
 use Rattle.std.proofs.lemmas.List.{length-map}

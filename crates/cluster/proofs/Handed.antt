@@ -1,8 +1,7 @@
 -- What the functions of this crate make of each event at which no floor rises.
 -- Needed by 9 functions of this crate.
-use Rattle.std.proofs.Common.{◌≡◌, ◌∙◌, ℕ, ◌*◌, ◌<◌, ◌≤◌, true, false, List, [], ◌∷◌, length, take}
-use Rattle.std.proofs.Common.{get_or, set}
-use Rattle.std.proofs.Common.{Option, Some, None, refl, sym, ap, subst, arith}
+use Rattle.std.proofs.Common.{◌≡◌, ◌∙◌, ℕ, ◌*◌, ◌<◌, ◌≤◌, true, false, List, [], ◌∷◌, length, take, get_or, set, Option, Some, None, refl}
+use Rattle.std.proofs.Common.{sym, ap, subst, arith}
 use Rattle.std.specs.Prelude.{is_some}
 use Rattle.std.specs.List.{flat_map}
 use Rattle.std.specs.Option.{option_map_or}
@@ -29,18 +28,15 @@ use Rattle.node_core.proofs.Hearing.{is_received}
 use Rattle.floored.specs.Nodes.{FlooredParts, FlooredStands, FlooredStepsAs}
 use Rattle.network.specs.Networks.{DatagramParts, NetworkParts, StandsFor, Finds, IsKept}
 use Rattle.cluster.specs.declared.handing.Answered.{Answered}
-use Rattle.cluster.specs.Clusters.{ClusterParts, NoticesParts, cluster_of, ClusterStands, IsSound, ReachesAs}
-use Rattle.cluster.specs.Clusters.{HappensAs, Reaches}
+use Rattle.cluster.specs.Clusters.{ClusterParts, NoticesParts, cluster_of, ClusterStands, IsSound, ReachesAs, HappensAs, Reaches}
 use Rattle.cluster.specs.Sending.{HaveSent, HasRoom}
 use Rattle.cluster.proofs.Bounds.{count}
 use Rattle.cluster.proofs.Sent.{none_sent}
 use Rattle.cluster.proofs.Standing.{is_there, none_there, told_elsewhere}
 use Rattle.cluster.proofs.Reaching.{reached, sends_few, room_less}
-use Rattle.cluster.proofs.Occurring.{cut_is_noise, mark_absent, occurs_asked, occurs_delivered, occurs_cut, unlost}
-use Rattle.cluster.proofs.Occurring.{occurs_forged, reaches_none, refused_before, not_torn, not_restarted, not_compacted, undelivered}
-use Rattle.cluster.proofs.Occurring.{uncut, not_cut}
-use Rattle.cluster.proofs.Occurring.{occurs_lost}
-use Rattle.cluster.proofs.Occurring.{with_network, with_marked}
+use Rattle.cluster.proofs.Occurring.{cut_is_noise, mark_absent, occurs_asked, occurs_delivered, occurs_cut, unlost, occurs_forged}
+use Rattle.cluster.proofs.Occurring.{reaches_none, refused_before, not_torn, not_restarted, not_compacted, undelivered, uncut, not_cut}
+use Rattle.cluster.proofs.Occurring.{occurs_lost, with_network, with_marked}
 
 none_left : {X : Type 0} (xs : List X) → length xs ≤ 0 → [] ≡ xs
 none_left [] le = refl

@@ -1,12 +1,10 @@
 -- What an event adds to the datagrams and to the notices of a world with floors, and how those are read off a cluster.
 -- Needed by `Cluster::step`, `list_told`, `most_told` and `put_all`; Occurring; crates cluster_run and run_traces.
-use Rattle.std.proofs.Common.{◌≡◌, ◌∙◌, ℕ, zero, suc, ◌+◌, ◌-◌, ◌<◌, ◌≤◌, Bool, true, false, if◌then◌else◌, List, []}
-use Rattle.std.proofs.Common.{◌∷◌, ◌++◌, length, map}
-use Rattle.std.proofs.Common.{Option, Some, None, take, drop, get_or, refl, sym, ap, subst, append_assoc, length-append, nat_lt, arith}
+use Rattle.std.proofs.Common.{◌≡◌, ◌∙◌, ℕ, zero, suc, ◌+◌, ◌-◌, ◌<◌, ◌≤◌, Bool, true, false, if◌then◌else◌, List, [], ◌∷◌, ◌++◌, length}
+use Rattle.std.proofs.Common.{map, Option, Some, None, take, drop, get_or, refl, sym, ap, subst, append_assoc, length-append, nat_lt, arith}
 use Rattle.std.specs.Prelude.{slice_get}
 use Rattle.std.specs.List.{range_with_len}
-use Rattle.std.proofs.lemmas.Bool.{cond_both}
-use Rattle.std.proofs.lemmas.Bool.{ltb-true, ltb-false}
+use Rattle.std.proofs.lemmas.Bool.{cond_both, ltb-true, ltb-false}
 use Rattle.std.proofs.lemmas.List.{append-nil, length-map, length-drop, length-take-le, take_all, take_more, get_or_append_left}
 use Rattle.std.proofs.lemmas.List.{get_or-append_right, get_or-map}
 use Rattle.std.proofs.lemmas.List.FromFn.{length-map-range_with_len, get_or-map-range_with_len}
@@ -30,11 +28,10 @@ use Rattle.node_core.specs.declared.config.Sizes.{Sizes}
 use Rattle.node_core.specs.Nodes.{AreSizes}
 use Rattle.floors.specs.Nodes.{Rise, forgotten_answer, is_unread, may_replace, on_least, on_raise}
 use Rattle.floors.specs.Worlds as floored
-use Rattle.floors.specs.Worlds.{FlooredWorld, FlooredResult, Notice, Machine, floored_answer, floored_dispatch}
-use Rattle.floors.specs.Worlds.{floored_if_found, floored_step}
-use Rattle.floors.specs.Worlds.{hear_at, hear_result, is_done, is_manager, least_told, machine_part, notices_of, raise_result}
-use Rattle.floors.specs.Worlds.{replace_at, replace_result, step_with_floors, told_from, told_nodes, told_with, with_rise}
-use Rattle.floors.specs.Worlds.{with_entry, with_told_lost}
+use Rattle.floors.specs.Worlds.{FlooredWorld, FlooredResult, Notice, Machine, floored_answer, floored_dispatch, floored_if_found}
+use Rattle.floors.specs.Worlds.{floored_step, hear_at, hear_result, is_done, is_manager, least_told, machine_part, notices_of, raise_result}
+use Rattle.floors.specs.Worlds.{replace_at, replace_result, step_with_floors, told_from, told_nodes, told_with, with_rise, with_entry}
+use Rattle.floors.specs.Worlds.{with_told_lost}
 use Rattle.floors.specs.Runs.{is_lost, passes_over}
 use Rattle.floors.proofs.Steps.{lost_event, same_event, unasked_event}
 use Rattle.node_core.specs.Configs.{config_by}

@@ -36,9 +36,7 @@ use Rattle.network.specs.Networks.{NetworkParts, StandsFor}
 use Rattle.cluster.specs.declared.handing.Answered.{Answered}
 use Rattle.cluster.specs.Clusters.{ClusterParts, NoticesParts, cluster_of, ClusterStands, IsSound, IsSameCluster, ReachesAs, ComesTo}
 use Rattle.cluster.specs.Clusters.{BefallsAt, BefallsReached, IsArmed, BefallsRestarted, BefallsCompacted, BefallsEvent, BefallsIn}
-use Rattle.cluster.specs.Clusters.{HappensAs, Happens, Occurs}
-use Rattle.cluster.specs.Clusters.{sent_after, step_by, told_after, handed, handed_cut}
-use Rattle.cluster.specs.Clusters.{place_reached, StayBut}
+use Rattle.cluster.specs.Clusters.{HappensAs, Happens, Occurs, sent_after, step_by, told_after, handed, handed_cut, place_reached, StayBut}
 use Rattle.cluster.proofs.Noticed.{sent_with_floors, told_with_floors}
 use Rattle.cluster.proofs.Reaching.{came_of}
 use Rattle.cluster.proofs.Sent.{none_by}

@@ -1,8 +1,7 @@
 -- A cluster is made: node after node, and for which world it stands then.
 -- Needed by `Cluster::new`, `open_all` and `open_new`; Following.
-use Rattle.std.proofs.Common.{◌≡◌, ◌⊎◌, ◌∙◌, inl, inr, ℕ, suc, ◌+◌, ◌<◌, Bool, true, false, List, [], ◌∷◌}
-use Rattle.std.proofs.Common.{◌++◌, length, map, get_or, Option, Some, None, refl, sym, ap, subst, append_assoc, length-append}
-use Rattle.std.proofs.Common.{arith}
+use Rattle.std.proofs.Common.{◌≡◌, ◌⊎◌, ◌∙◌, inl, inr, ℕ, suc, ◌+◌, ◌<◌, Bool, true, false, List, [], ◌∷◌, ◌++◌, length, map, get_or}
+use Rattle.std.proofs.Common.{Option, Some, None, refl, sym, ap, subst, append_assoc, length-append, arith}
 use Rattle.std.specs.Prelude.{◌==◌, slice_get, replicate, IsTrue}
 use Rattle.std.specs.List.{All, AllZip, slice_set}
 use Rattle.std.specs.Option.{option_and_then, option_map_or}
@@ -42,8 +41,7 @@ use Rattle.node_core.proofs.Restarting.{opened_empty}
 use Rattle.node_core.specs.Opening.{HasFaulted, IsOpened, IsUnopened}
 use Rattle.network.specs.Networks.{NetworkParts, StandsFor}
 use Rattle.cluster.specs.Clusters.{NoticesParts, cluster_of, AreTold, ClusterStands, IsSound}
-use Rattle.cluster.specs.Opening.{torn_node, opening_with, tears_of, NoneArmed, IsOver, IsMade, IsUnmade}
-use Rattle.cluster.specs.Opening.{IsBegun, IsUnbegun, AreBegun}
+use Rattle.cluster.specs.Opening.{torn_node, opening_with, tears_of, NoneArmed, IsOver, IsMade, IsUnmade, IsBegun, IsUnbegun, AreBegun}
 
 -- what may be isn't what may not
 pub may_not : (may : Bool) → IsTrue may → may ≡ false → ⊥

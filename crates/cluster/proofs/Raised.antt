@@ -1,8 +1,7 @@
 -- A floor rises, and a notice is heard: what comes of it is what comes of it in a world with floors.
 -- Needed by `hear` and `raise`.
-use Rattle.std.proofs.Common.{◌≡◌, ◌∙◌, ℕ, zero, suc, ◌<◌, Bool, true, false, if◌then◌else◌, List, [], ◌++◌, length}
-use Rattle.std.proofs.Common.{get_or, set}
-use Rattle.std.proofs.Common.{Option, Some, None, refl, sym, ap, subst, arith}
+use Rattle.std.proofs.Common.{◌≡◌, ◌∙◌, ℕ, zero, suc, ◌<◌, Bool, true, false, if◌then◌else◌, List, [], ◌++◌, length, get_or, set, Option}
+use Rattle.std.proofs.Common.{Some, None, refl, sym, ap, subst, arith}
 use Rattle.std.specs.Prelude.{is_none, is_some, slice_get, Result, Ok, Err, OnOk, OnErr}
 use Rattle.std.specs.Option.{option_and_then, option_map}
 use Rattle.std.proofs.lemmas.List.{append-nil, get_or_default}
@@ -17,8 +16,7 @@ use Rattle.protocol.specs.declared.nodes.NodeId.{NodeId}
 use Rattle.protocol.specs.declared.nodes.NodeId.TheVariants.{A, L, R}
 use Rattle.protocol.specs.Effects.{Config}
 use Rattle.protocol.specs.Nodes.{NodeState, Fault, NoFault, NoMemoryBefore}
-use Rattle.protocol.specs.Worlds.{World, node_at}
-use Rattle.protocol.specs.Worlds.{place as place_of}
+use Rattle.protocol.specs.Worlds.{World, node_at, place as place_of}
 use Rattle.node_core.specs.declared.config.Sizes.{Sizes}
 use Rattle.node_core.specs.Opening.{restart_answer}
 use Rattle.floors.specs.Nodes.{Rise, kept_rise, on_least, on_raise}

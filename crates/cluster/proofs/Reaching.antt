@@ -19,16 +19,14 @@ use Rattle.protocol.specs.declared.events.Event.TheVariants.{Ask, Deliver, Noise
 use Rattle.protocol.specs.declared.nodes.NodeId.{NodeId}
 use Rattle.protocol.specs.declared.requests.Request.{Request}
 use Rattle.protocol.specs.Effects.{Config, Effect}
-use Rattle.protocol.specs.Nodes.{NodeState, Memory, Input, Asked, Received, ReceivedNoise, Fault, Outcome, NoFault}
-use Rattle.protocol.specs.Nodes.{NoMemoryBefore, NoMemoryAt, RecordFails}
-use Rattle.protocol.specs.Nodes.{effect_of, effect_outcome, accepts_input}
+use Rattle.protocol.specs.Nodes.{NodeState, Memory, Input, Asked, Received, ReceivedNoise, Fault, Outcome, NoFault, NoMemoryBefore}
+use Rattle.protocol.specs.Nodes.{NoMemoryAt, RecordFails, effect_of, effect_outcome, accepts_input}
 use Rattle.protocol.specs.Worlds.{World, Datagram, StepResult, place, node_at, at_node, datagrams_of, if_found, outcome_result}
 use Rattle.protocol.specs.Worlds.{answer_result, with_mark}
 use Rattle.node_core.specs.declared.config.Sizes.{Sizes}
 use Rattle.node_core.specs.declared.output.Output.{Output}
 use Rattle.node_core.specs.Groups.{Place as At}
-use Rattle.node_core.specs.Nodes.{AreSizes, Befalls}
-use Rattle.node_core.specs.Nodes.{datagram_input}
+use Rattle.node_core.specs.Nodes.{AreSizes, Befalls, datagram_input}
 use Rattle.node_core.proofs.Addressed.{datagrams_as}
 use Rattle.stable_record.specs.Held.{Held}
 use Rattle.xid.specs.Places.{Place}

@@ -30,8 +30,7 @@ use Rattle.floored.specs.Told.{told_at}
 use Rattle.network.specs.Networks.{NetworkParts, StandsFor}
 use Rattle.cluster.specs.declared.handing.Answered.{Answered}
 use Rattle.cluster.specs.Clusters.{ClusterParts, NoticesParts, cluster_of, AreTold, ClusterStands, ComesTo, BefallsRestarted}
-use Rattle.cluster.specs.Clusters.{BefallsCompacted, IsMetIf, IsArmed, IsSameFloored}
-use Rattle.cluster.specs.Clusters.{StayBut, HappensAs, LeavesShorter, BefallsShorter}
+use Rattle.cluster.specs.Clusters.{BefallsCompacted, IsMetIf, IsArmed, IsSameFloored, StayBut, HappensAs, LeavesShorter, BefallsShorter}
 use Rattle.cluster.specs.Notices.{forgotten_at, told_in}
 use Rattle.cluster.proofs.Standing.{there, placed, found, named, node_put, node_kept, at_place, same_but, same_floored, others_stay}
 use Rattle.cluster.proofs.Standing.{told_put, told_within}

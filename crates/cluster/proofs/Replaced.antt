@@ -13,8 +13,7 @@ use Rattle.protocol.specs.declared.nodes.NodeId.{NodeId}
 use Rattle.protocol.specs.Effects.{Config}
 use Rattle.protocol.specs.Nodes.{NodeState, Fault, Outcome, NoFault, NoMemoryAt, RecordFails, restart_outcome, down_node}
 use Rattle.protocol.specs.Nodes.{all_play, answer_outcome, empty_memory}
-use Rattle.protocol.specs.Worlds.{World, node_at}
-use Rattle.protocol.specs.Worlds.{place as place_of}
+use Rattle.protocol.specs.Worlds.{World, node_at, place as place_of}
 use Rattle.node_core.specs.declared.config.Sizes.{Sizes}
 use Rattle.node_core.specs.Opening.{restart_answer}
 use Rattle.floors.specs.Nodes.{Rise, is_unread, kept_rise, may_replace, not_put_in, on_replace, put_in}

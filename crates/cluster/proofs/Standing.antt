@@ -1,8 +1,7 @@
 -- The nodes of a cluster and those of its world with floors, place by place.
 -- Needed by `unmade`; 8 files here.
-use Rattle.std.proofs.Common.{◌≡◌, ◌∙◌, inl, inr, ℕ, zero, suc, ◌+◌, ◌<◌, List, [], ◌∷◌, length}
-use Rattle.std.proofs.Common.{get_or, set}
-use Rattle.std.proofs.Common.{Option, Some, None, refl, sym, ap, subst, nat_lt, arith}
+use Rattle.std.proofs.Common.{◌≡◌, ◌∙◌, inl, inr, ℕ, zero, suc, ◌+◌, ◌<◌, List, [], ◌∷◌, length, get_or, set, Option, Some, None, refl, sym}
+use Rattle.std.proofs.Common.{ap, subst, nat_lt, arith}
 use Rattle.std.specs.Prelude.{slice_get, if◌then◌else◌}
 use Rattle.std.specs.List.{AllZip, slice_set}
 use Rattle.std.specs.Option.{option_and_then, option_map_or}

@@ -1,8 +1,6 @@
 -- A cluster: which world with floors it stands for, and what an event makes of both.
 use Rattle.std.specs.Prelude.{◌≡◌, ◌≢◌, ℕ, zero, suc, ◌+◌, ◌-◌, ◌^◌, ◌<◌, Bool, true, false, nat_lt, if◌then◌else◌, List, [], ◌∷◌, ◌++◌}
-use Rattle.std.specs.Prelude.{length, drop, slice_get, slice_index_or, Option}
-use Rattle.std.specs.Prelude.{Some, None}
-use Rattle.std.specs.Prelude.{Ok, Err}
+use Rattle.std.specs.Prelude.{length, drop, slice_get, slice_index_or, Option, Some, None, Ok, Err}
 use Rattle.std.specs.List.{AllZip}
 use Rattle.std.specs.Option.{option_map, option_map_or, option_and_then}
 use Rattle.xid.specs.Places.{Place}
@@ -25,8 +23,7 @@ use Rattle.node_core.specs.declared.config.Sizes.{Sizes}
 use Rattle.node_core.specs.Nodes.{AreSizes, Befalls}
 use Rattle.node_core.specs.Compacting.{BefallsCompact, IsRecompacted}
 use Rattle.node_core.specs.Opening.{BefallsRestart}
-use Rattle.floors.specs.Worlds.{FlooredWorld, FlooredResult, Notice, at_floored_node, floored_step_of, step_with_floors}
-use Rattle.floors.specs.Worlds.{told_from}
+use Rattle.floors.specs.Worlds.{FlooredWorld, FlooredResult, Notice, at_floored_node, floored_step_of, step_with_floors, told_from}
 use Rattle.floors.specs.Runs.{IsFlooredReachable}
 use Rattle.floored.specs.Nodes.{BefallsReplace, BefallsRise, FlooredParts, FlooredStands, floored_fact}
 use Rattle.floored.specs.Told.{told_at}

@@ -13,8 +13,7 @@ use Rattle.protocol.proofs.Lists.{IsIn-after, IsIn-before}
 use Rattle.answers.specs.Answers.{IsQuestion, Tells}
 use Rattle.answers.proofs.Runs.{IsToldIn}
 use Rattle.floors.specs.Nodes.{forgotten_answer}
-use Rattle.floors.specs.Worlds.{FlooredResult, FlooredWorld, floored_trace}
-use Rattle.floors.specs.Worlds.{on_machine, step_with_floors, with_floors}
+use Rattle.floors.specs.Worlds.{FlooredResult, FlooredWorld, floored_trace, on_machine, step_with_floors, with_floors}
 use Rattle.floors.specs.Runs.{events_from, events_in_machine, machine_events, passes_over, with_fault}
 use Rattle.floors.proofs.Steps.{in_machine, same_event, unasked_event}
 

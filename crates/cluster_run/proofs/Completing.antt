@@ -1,7 +1,6 @@
 -- Each run can be gone on with to the end of its commands, meeting no more faults: for a run that breaks off while it is printed.
-use Rattle.std.proofs.Common.{◌≡◌, ◌∙◌, ℕ, zero, suc, ◌+◌, ◌-◌, ◌≤◌, ◌<◌, List, [], ◌∷◌, ◌++◌}
-use Rattle.std.proofs.Common.{length, length-append, Option, Some, None, refl, sym}
-use Rattle.std.proofs.Common.{ap, subst, append_assoc, inl, inr, arith, ◌⊎◌, map, take, drop, get_or, take-append-drop}
+use Rattle.std.proofs.Common.{◌≡◌, ◌∙◌, ℕ, zero, suc, ◌+◌, ◌-◌, ◌≤◌, ◌<◌, List, [], ◌∷◌, ◌++◌, length, length-append, Option, Some, None}
+use Rattle.std.proofs.Common.{refl, sym, ap, subst, append_assoc, inl, inr, arith, ◌⊎◌, map, take, drop, get_or, take-append-drop}
 use Rattle.std.specs.List.{flat_map}
 use Rattle.std.proofs.lemmas.Grind.{flat_map-append, take_at_read}
 use Rattle.protocol.specs.Vocabulary.{Deliver, Event, Step}

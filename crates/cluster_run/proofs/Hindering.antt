@@ -1,6 +1,5 @@
 -- Looking back gives the same answers over two lists of steps that are alike.
-use Rattle.std.proofs.Common.{◌≡◌, ◌∙◌, ℕ, Bool, true, not, ◌&&◌, if◌then◌else◌, List, [], Option}
-use Rattle.std.proofs.Common.{Some, None, refl, sym, ap}
+use Rattle.std.proofs.Common.{◌≡◌, ◌∙◌, ℕ, Bool, true, not, ◌&&◌, if◌then◌else◌, List, [], Option, Some, None, refl, sym, ap}
 use Rattle.std.specs.Prelude.{filter_map, filter, fold, reverse}
 use Rattle.std.specs.List.{list_any}
 use Rattle.std.specs.Option.{option_map_or}
@@ -22,8 +21,7 @@ use Rattle.branch_table.specs.OneCall.{view_in_state}
 use Rattle.protocol.specs.declared.requests.Request.TheVariants.{Call, Recover, Timeout}
 use Rattle.history.specs.Answers.{answer_to}
 use Rattle.history.specs.Lines.{changes_at, is_spent_back, view_back}
-use Rattle.history.specs.LookingBack.{actions_since, before_vote, branch_back, branch_by}
-use Rattle.history.specs.LookingBack.{is_hindered_back, prepared_in}
+use Rattle.history.specs.LookingBack.{actions_since, before_vote, branch_back, branch_by, is_hindered_back, prepared_in}
 use Rattle.history.specs.Writes.{changed_to, names_prepared}
 use Rattle.history.proofs.Answered.{hinderer_called, names_called, same_tests}
 use Rattle.cluster_run.proofs.Alike.{Alike, prepared_same, same_changes, same_since, same_view, table_same, voted_actions, views_same}

@@ -11,8 +11,7 @@ use Rattle.protocol.specs.Effects.{Config}
 use Rattle.protocol.specs.Nodes.{NodeState, Fault, NoMemoryBefore, NoMemoryAt, RecordFails}
 use Rattle.protocol.specs.Worlds.{node_at}
 use Rattle.protocol.specs.declared.requests.Request.TheVariants as requests
-use Rattle.floors.specs.Nodes.{Rise, is_free_below, is_request_below, is_unread, kept_rise, may_replace, on_least, on_raise, put_in}
-use Rattle.floors.specs.Nodes.{risen}
+use Rattle.floors.specs.Nodes.{Rise, is_free_below, is_request_below, is_unread, kept_rise, may_replace, on_least, on_raise, put_in, risen}
 use Rattle.floors.specs.Worlds as floored
 use Rattle.floors.specs.Worlds.{FlooredResult, FlooredWorld, Machine, Notice, floored_answer, floored_if_found, floored_step, hear_at}
 use Rattle.floors.specs.Worlds.{hear_result, is_done, is_manager, is_node, least_told, raise_result, step_with_floors, told_with}

@@ -1,7 +1,6 @@
 -- The trace of a script as a run in which each node has a floor, and what it says when one looks back over it. What happens in the cluster,
 -- and which nodes it happens to, is left open here.
-use Rattle.std.specs.Prelude.{◌≡◌, ◌≢◌, true, ℕ, ◌==◌, if◌then◌else◌, false, List, [], ◌∷◌, ◌++◌, map, filter_map, reverse}
-use Rattle.std.specs.Prelude.{Some}
+use Rattle.std.specs.Prelude.{◌≡◌, ◌≢◌, true, ℕ, ◌==◌, if◌then◌else◌, false, List, [], ◌∷◌, ◌++◌, map, filter_map, reverse, Some}
 use Rattle.std.specs.List.{list_any, range_with_len}
 use Rattle.xid.specs.Names.{XidParts}
 use Rattle.xid.specs.Transactions.{TxParts, xid_at}

@@ -2,10 +2,9 @@
 ghost use Rattle.std.specs.Prelude.{◌≡◌, ℕ, List, Some};
 ghost use Rattle.xid.specs.Names.{XidParts};
 ghost use Rattle.protocol.specs.Vocabulary.{R, Action, Row};
-ghost use Rattle.protocol.specs.Managers.{stored_votes};
+ghost use Rattle.protocol.specs.Managers.{stored_votes, on_call};
 ghost use Rattle.protocol.specs.Effects.{Config};
 ghost use Rattle.protocol.specs.Facts.{is_spent};
-ghost use Rattle.protocol.specs.Managers.{on_call};
 ghost use Rattle.protocol.specs.Nodes.{NodeState};
 ghost use Rattle.protocol.specs.Tables.{table};
 ghost use Rattle.protocol.specs.Worlds.{Occurrence, node_at};

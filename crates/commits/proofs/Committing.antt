@@ -1,6 +1,5 @@
 -- Stored votes lead to a commit: they are sent, accepted in ballot 0 and decided, and the participants follow.
-use Rattle.std.proofs.Common.{◌≡◌, ◌⊎◌, inl, inr, ℕ, ◌<◌, ◌≤◌, Bool, true, IsTrue}
-use Rattle.std.proofs.Common.{Option, refl, sym, ap, subst, arith}
+use Rattle.std.proofs.Common.{◌≡◌, ◌⊎◌, inl, inr, ℕ, ◌<◌, ◌≤◌, Bool, true, IsTrue, Option, refl, sym, ap, subst, arith}
 use Rattle.xid.specs.Transactions.{TxParts, is_participant}
 use Rattle.xid.specs.declared.transaction.Vote.TheVariants.{Prepared}
 use Rattle.ballot.specs.Majority.{is_majority}

@@ -1,8 +1,7 @@
 -- Which inputs are below a floor, by their bytes.
 -- Needed by `is_datagram_below` and `is_message`.
-use Rattle.std.proofs.Common.{◌≡◌, ◌≢◌, ◌∙◌, ℕ, Bool, true, false, List, ◌++◌, length, ◌-◌, take, drop, Option, Some, None}
-use Rattle.std.proofs.Common.{refl, sym, ap, arith}
-use Rattle.std.proofs.Common.{append_assoc}
+use Rattle.std.proofs.Common.{◌≡◌, ◌≢◌, ◌∙◌, ℕ, Bool, true, false, List, ◌++◌, length, ◌-◌, take, drop, Option, Some, None, refl, sym, ap}
+use Rattle.std.proofs.Common.{arith, append_assoc}
 use Rattle.std.specs.Prelude.{is_some}
 use Rattle.std.specs.Option.{option_map_or}
 use Rattle.std.proofs.lemmas.List.{take_rest}

@@ -18,8 +18,7 @@ use Rattle.node_core.specs.Raising.{RaisesAs}
 use Rattle.node_core.specs.Storing.{output_of}
 use Rattle.floors.specs.Nodes.{forgotten_answer}
 use Rattle.floored.specs.Nodes.{FlooredCompacts, FlooredGroupsAs, FlooredParts, FlooredRaises, FlooredRestarts, FlooredStands}
-use Rattle.floored.specs.Nodes.{FlooredStepsAs, RaisesNode}
-use Rattle.floored.specs.Nodes.{IsFlooredSound, are_above, floor_before, is_over, with_floor}
+use Rattle.floored.specs.Nodes.{FlooredStepsAs, RaisesNode, IsFlooredSound, are_above, floor_before, is_over, with_floor}
 use Rattle.floored.proofs.Grouping.{groups_from}
 use Rattle.floored.proofs.Handling.{passed_from, stepped_from}
 use Rattle.floored.proofs.Restarting.{compacts_from, restarts_from, stopped_node, unread_from}

@@ -1,7 +1,6 @@
 -- The floor that a node's record stands behind, and what stands behind it.
 -- Needed by 7 files here.
-use Rattle.std.proofs.Common.{◌≡◌, ◌∙◌, ℕ, true, List, [], ◌∷◌, Option, Some, None, is_some, inl}
-use Rattle.std.proofs.Common.{refl, sym, ap, subst, append-nil, arith}
+use Rattle.std.proofs.Common.{◌≡◌, ◌∙◌, ℕ, true, List, [], ◌∷◌, Option, Some, None, is_some, inl, refl, sym, ap, subst, append-nil, arith}
 use Rattle.std.specs.Option.{option_map}
 use Rattle.xid.specs.Places.{Place}
 use Rattle.stable_record.specs.Behind.{IsFloor, IsFronting}

@@ -18,8 +18,7 @@ ghost use Rattle.floors.specs.Nodes.{is_input_below, may_replace};
 ghost use Rattle.floors.specs.Worlds.{is_manager};
 ghost use Rattle.floored.specs.Nodes.{FlooredCompacts, FlooredGroupsAs, FlooredRaises, FlooredRestarts, FlooredStands, FlooredStepsAs};
 ghost use Rattle.floored.specs.Nodes.{FlooredTables, FlooredViews, IsFlooredOpened, IsFlooredUnopened, LearnsOwn, RaisesNode, are_above};
-ghost use Rattle.floored.specs.Nodes.{FlooredMayReplace, FlooredReplaces};
-ghost use Rattle.floored.specs.Nodes.{is_over};
+ghost use Rattle.floored.specs.Nodes.{FlooredMayReplace, FlooredReplaces, is_over};
 
 use crate::below::{forgotten_answer, is_below};
 use node_core::{Config, Input, Node, Output, accepts_request};

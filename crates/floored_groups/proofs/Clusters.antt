@@ -1,8 +1,7 @@
 -- Whatever becomes of all processes of a cluster, they stand for a world that groups with floors lead to.
 -- Needed by `processes_are_clusters`; Telling and Views; crate process_history.
-use Rattle.std.proofs.Common.{◌≡◌, ◌≢◌, ◌∙◌, ◌⊎◌, inl, inr, ℕ, zero, suc, ◌+◌, ◌<◌, Bool, true, false, if◌then◌else◌, List, [], ◌∷◌}
-use Rattle.std.proofs.Common.{◌++◌, length, map}
-use Rattle.std.proofs.Common.{Option, Some, None, refl, sym, ap, subst, append-nil, arith}
+use Rattle.std.proofs.Common.{◌≡◌, ◌≢◌, ◌∙◌, ◌⊎◌, inl, inr, ℕ, zero, suc, ◌+◌, ◌<◌, Bool, true, false, if◌then◌else◌, List, [], ◌∷◌, ◌++◌}
+use Rattle.std.proofs.Common.{length, map, Option, Some, None, refl, sym, ap, subst, append-nil, arith}
 use Rattle.std.specs.Prelude.{is_some, replicate, slice_get, MatchBool}
 use Rattle.std.specs.List.{AllByRecursion, flat_map}
 use Rattle.std.specs.Option.{option_and_then}
@@ -38,9 +37,7 @@ use Rattle.floored_groups.specs.Runs.{FlooredHappening, IsFlooredReached, Openin
 use Rattle.floored_groups.specs.Processes.{AreAllAnswered, AreAnswered, AreAnsweredApart, AreGrouped, CanBeGiven, GoesOn, IsAnswered}
 use Rattle.floored_groups.specs.Processes.{IsGrouped, IsUnstored, OthersStay, StandsIn, notice_to, sent_of, told_by}
 use Rattle.floored_groups.specs.Clusters.{AllProcesses, Armed, Begun, Compacted, Failed, IsBegun, IsReplied, IsRun, Raised, Reopened, Reply}
-use Rattle.floored_groups.specs.Clusters.{Tabled, TookOne, Viewed}
-use Rattle.floored_groups.specs.Clusters.{Restarted}
-use Rattle.floored_groups.specs.Clusters.{StandFor, TookAll, after_step, all_replies, replies_of}
+use Rattle.floored_groups.specs.Clusters.{Tabled, TookOne, Viewed, Restarted, StandFor, TookAll, after_step, all_replies, replies_of}
 use Rattle.floored_groups.proofs.Going.{stays_on}
 use Rattle.floored_groups.proofs.Reopened.{reopened_on}
 use Rattle.floored_groups.proofs.Taken.{taken, taken_alone, unstored}

@@ -19,9 +19,8 @@ use Rattle.progress.proofs.Backed.{AllAmong}
 use Rattle.safety.proofs.World.NodePlaces.{node_there}
 use Rattle.protocol.specs.Effects.{Config, Effect}
 use Rattle.protocol.specs.Nodes.{NodeState, Memory, Input, Asked, Received, ReceivedNoise, Fault, NoFault, NoMemoryBefore, NoMemoryAt}
-use Rattle.protocol.specs.Nodes.{RecordFails}
-use Rattle.protocol.specs.Nodes.{Outcome, node_step, accepts_input, effect_of, effect_outcome, answer_outcome, down_answer, restart_outcome}
-use Rattle.protocol.specs.Nodes.{compact_outcome}
+use Rattle.protocol.specs.Nodes.{RecordFails, Outcome, node_step, accepts_input, effect_of, effect_outcome, answer_outcome, down_answer}
+use Rattle.protocol.specs.Nodes.{restart_outcome, compact_outcome}
 use Rattle.protocol.specs.Worlds.{World, Datagram, node_at, set_node, datagrams_of, datagram_at, with_mark, mark_at, if_found}
 use Rattle.protocol.specs.Worlds.{outcome_result, answer_result, at_node, world_after}
 use Rattle.groups.specs.Runs.{Handed, CanBeHanded, is_upkeep}

@@ -1,8 +1,7 @@
 -- What hands no input to a node is answered, where floors are, as the event of the machine is that it comes to, if it comes to one. So the
 -- machine's run answers alike.
 -- Needed by Reached.
-use Rattle.std.proofs.Common.{◌≡◌, ◌∙◌, ℕ, Bool, true, false, not, ◌&&◌, if◌then◌else◌, Option, Some, None, refl}
-use Rattle.std.proofs.Common.{sym, ap}
+use Rattle.std.proofs.Common.{◌≡◌, ◌∙◌, ℕ, Bool, true, false, not, ◌&&◌, if◌then◌else◌, Option, Some, None, refl, sym, ap}
 use Rattle.std.specs.Prelude.{slice_get}
 use Rattle.std.specs.Option.{option_map_or}
 use Rattle.xid.specs.Places.{Place, is_lower}
@@ -13,11 +12,10 @@ use Rattle.protocol.specs.Effects.{Config}
 use Rattle.protocol.specs.Nodes.{NodeState, Fault, NoFault, NoMemoryBefore, NoMemoryAt, RecordFails, Outcome, restart_outcome}
 use Rattle.protocol.specs.Nodes.{compact_outcome}
 use Rattle.protocol.specs.Worlds.{StepResult, answer_result, if_found, node_at, outcome_result, dispatch, world_step}
-use Rattle.floors.specs.Nodes.{is_free_below, risen, on_least, kept_rise, may_replace, is_unread, not_put_in, floor_after}
+use Rattle.floors.specs.Nodes.{is_free_below, risen, on_least, kept_rise, may_replace, is_unread, not_put_in, floor_after, on_raise}
 use Rattle.floors.specs.Worlds.{FlooredWorld, FlooredEvent, FlooredResult, Notice, Raise, Hear, Replace, raise_at, raise_result, hear_at}
 use Rattle.floors.specs.Worlds.{hear_result, replace_at, replace_result, floored_answer, floored_if_found, floored_dispatch, floored_step}
 use Rattle.floors.specs.Worlds.{is_manager, is_put, least_told, told_with, nothing_told, with_entry, with_rise, with_told_lost}
-use Rattle.floors.specs.Nodes.{on_raise}
 use Rattle.floors.specs.Runs.{does_raise, does_rise, is_put_in, receiver_of}
 
 module _ (config : Config) (world : FlooredWorld) (fault : Fault) where

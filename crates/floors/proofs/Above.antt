@@ -34,17 +34,14 @@ use Rattle.safety.proofs.World.Events.{slice_among}
 use Rattle.progress.proofs.Accepting.{number_among}
 use Rattle.floors.specs.Nodes.{Rise, floor_after, floored_node_step, is_free_below, on_raise, on_least, may_replace, is_unread}
 use Rattle.floors.specs.Worlds.{FlooredWorld, FlooredEvent, FlooredResult, Notice, Machine, Raise, Hear, Replace, at_floored_node}
-use Rattle.floors.specs.Worlds.{is_manager, is_put}
-use Rattle.floors.specs.Worlds.{machine_result, on_machine, with_entry, nothing_told, told_after, with_rise, notices_of, is_done}
-use Rattle.floors.specs.Worlds.{raise_result}
-use Rattle.floors.specs.Worlds.{raise_at, higher, told_with, least_told, hear_result, hear_at, replace_result, replace_at, floored_step}
-use Rattle.floors.specs.Worlds.{told_nodes}
+use Rattle.floors.specs.Worlds.{is_manager, is_put, machine_result, on_machine, with_entry, nothing_told, told_after, with_rise, notices_of}
+use Rattle.floors.specs.Worlds.{is_done, raise_result, raise_at, higher, told_with, least_told, hear_result, hear_at, replace_result}
+use Rattle.floors.specs.Worlds.{replace_at, floored_step, told_nodes}
 use Rattle.floors.specs.Runs.{IsFlooredReachable, Opening, After, floored_opening}
 use Rattle.xid.proofs.Places.{not_lower, not_lower_self, not_below_none}
 use Rattle.floors.proofs.Order.{higher_bound, least_is}
 use Rattle.floors.proofs.Rising.{IsRisen, raise_is, least_rise, not_sunk, entry_by, entry_own, found_after}
-use Rattle.floors.proofs.Nodes.{IsAboveFloor, kept_above, input_above, step_above, restart_forgets}
-use Rattle.floors.proofs.Nodes.{compact_memory}
+use Rattle.floors.proofs.Nodes.{IsAboveFloor, kept_above, input_above, step_above, restart_forgets, compact_memory}
 
 -- ---- a node through an event
 

@@ -1,7 +1,6 @@
 -- A transaction that is at hand is decided, followed and ended with floors.
 use Rattle.std.proofs.Common.{◌≡◌, ◌⊎◌, inl, inr, ◌∙◌, ℕ, ◌^◌, ◌<◌, Bool, true, false, not, ◌&&◌, if◌then◌else◌, List, [], ◌∷◌, Option}
-use Rattle.std.proofs.Common.{Some}
-use Rattle.std.proofs.Common.{None, refl, sym, ap, subst, nat_lt, IsTrue}
+use Rattle.std.proofs.Common.{Some, None, refl, sym, ap, subst, nat_lt, IsTrue}
 use Rattle.std.specs.Prelude.{slice_get, filter}
 use Rattle.std.specs.Option.{option_and_then, option_map_or}
 use Rattle.std.proofs.lemmas.Bool.{and_from, and_parts, cond-true, cond-false, not_from_true, not-true, not_from_false, eq-eqb, eqb-true}

@@ -1,7 +1,5 @@
 -- Nodes in their places: one that is put back as it was changes nothing, and what holds of a node and of one put there holds after.
-use Rattle.std.proofs.Common.{◌≡◌, ℕ, zero, suc, List, [], ◌∷◌, ◌++◌, Option, Some, None}
-use Rattle.std.proofs.Common.{true, refl, sym, ap}
-use Rattle.std.proofs.Common.{append-nil, arith}
+use Rattle.std.proofs.Common.{◌≡◌, ℕ, zero, suc, List, [], ◌∷◌, ◌++◌, Option, Some, None, true, refl, sym, ap, append-nil, arith}
 use Rattle.std.specs.Prelude.{slice_get, length}
 use Rattle.std.specs.List.{slice_set}
 use Rattle.std.specs.Option.{option_and_then, option_map_or}

@@ -1,6 +1,5 @@
 -- Floors only rise, and rise where they may.
-use Rattle.std.proofs.Common.{◌≡◌, ◌⊎◌, inl, inr, ◌∙◌, ℕ, Bool, true, false, not, if◌then◌else◌, Option, Some, None, refl, sym, ap}
-use Rattle.std.proofs.Common.{subst}
+use Rattle.std.proofs.Common.{◌≡◌, ◌⊎◌, inl, inr, ◌∙◌, ℕ, Bool, true, false, not, if◌then◌else◌, Option, Some, None, refl, sym, ap, subst}
 use Rattle.std.specs.Prelude.{slice_get}
 use Rattle.std.proofs.lemmas.Bool.{cond_both, cond-true, and_parts, not-true}
 use Rattle.xid.specs.declared.refusals.Refusal.TheVariants.{Down, Busy}

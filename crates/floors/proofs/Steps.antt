@@ -1,7 +1,6 @@
 -- An event in a world with floors is an event of the machine, or none.
 use Rattle.std.proofs.Common.{◌≡◌, ◌∙◌, ℕ, Bool, true, false, not, ◌&&◌, if◌then◌else◌, List, [], ◌∷◌, ◌++◌, Option, Some, None, refl, sym}
-use Rattle.std.proofs.Common.{ap}
-use Rattle.std.proofs.Common.{append-nil}
+use Rattle.std.proofs.Common.{ap, append-nil}
 use Rattle.std.specs.Prelude.{slice_get}
 use Rattle.std.specs.Option.{option_map_or}
 use Rattle.std.specs.List.{flat_map}
@@ -12,20 +11,16 @@ use Rattle.protocol.specs.declared.requests.Request.TheVariants as requests
 use Rattle.protocol.specs.Vocabulary.{NodeId, A, L, R, Outgoing, Done, Refused, Event, Ask, Deliver, Lose, Restart, Compact}
 use Rattle.protocol.specs.Effects.{Config}
 use Rattle.protocol.specs.Nodes.{NodeState, Input, Asked, Received, Fault, NoMemoryBefore, Outcome, node_step, answer_outcome}
-use Rattle.protocol.specs.Nodes.{restart_outcome, compact_outcome}
+use Rattle.protocol.specs.Nodes.{restart_outcome, compact_outcome, ReceivedNoise, accepts_input}
 use Rattle.protocol.specs.Worlds.{World, Datagram, StepResult, answer_result, if_found, datagram_at, with_mark, node_at, set_node}
-use Rattle.protocol.specs.Worlds.{datagrams_of}
-use Rattle.protocol.specs.Worlds.{outcome_result, at_node, dispatch, world_step, world_after}
+use Rattle.protocol.specs.Worlds.{datagrams_of, outcome_result, at_node, dispatch, world_step, world_after}
 use Rattle.xid.specs.Places.{Place, is_lower}
 use Rattle.floors.specs.Nodes.{floored_node_step, floor_after, is_passed_over, forgotten_answer, is_free_below, risen, on_raise, on_least}
-use Rattle.floors.specs.Nodes.{kept_rise}
-use Rattle.protocol.specs.Nodes.{ReceivedNoise, accepts_input}
-use Rattle.floors.specs.Nodes.{is_input_below, may_replace, is_unread, not_put_in}
+use Rattle.floors.specs.Nodes.{kept_rise, is_input_below, may_replace, is_unread, not_put_in}
 use Rattle.floors.specs.Worlds.{FlooredWorld, FlooredEvent, FlooredResult, Notice, Machine, Raise, Hear, Replace, at_floored_node}
 use Rattle.floors.specs.Worlds.{machine_part, on_machine, machine_result, is_manager, raise_at, raise_result, told_with, least_told}
-use Rattle.floors.specs.Worlds.{hear_at, hear_result, is_put, with_told_lost}
-use Rattle.floors.specs.Worlds.{replace_at, replace_result, floored_answer, with_rise, with_entry, nothing_told, floored_if_found}
-use Rattle.floors.specs.Worlds.{floored_step}
+use Rattle.floors.specs.Worlds.{hear_at, hear_result, is_put, with_told_lost, replace_at, replace_result, floored_answer, with_rise}
+use Rattle.floors.specs.Worlds.{with_entry, nothing_told, floored_if_found, floored_step}
 use Rattle.floors.specs.Runs.{passes_over, is_lost, machine_events, does_raise, does_rise, is_put_in, receiver_of, events_in_machine}
 use Rattle.floors.specs.Runs.{with_fault}
 use Rattle.xid.proofs.Places.{not_below_none}

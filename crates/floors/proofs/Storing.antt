@@ -20,13 +20,11 @@ use Rattle.safety.proofs.World.Growth.{same_node}
 use Rattle.safety.proofs.World.NodePlaces.{node_there, node_elsewhere}
 use Rattle.xid.specs.Places.{Place, is_lower, is_below}
 use Rattle.safety.proofs.World.Changes.{compact_keeps, restart_keeps}
-use Rattle.floors.specs.Nodes.{floored_node_step, is_input_below, on_raise, on_least, may_replace, is_unread}
-use Rattle.floors.specs.Nodes.{is_unused_above}
+use Rattle.floors.specs.Nodes.{floored_node_step, is_input_below, on_raise, on_least, may_replace, is_unread, is_unused_above}
 use Rattle.protocol.specs.Kept.{is_kept, kept_facts}
 use Rattle.floors.specs.Runs.{is_put_in}
-use Rattle.floors.specs.Worlds.{FlooredWorld, FlooredEvent, FlooredResult, Notice, Machine, Raise, Hear, Replace, is_manager}
-use Rattle.floors.specs.Worlds.{raise_result, raise_at, told_with, least_told, hear_result, hear_at, replace_result, replace_at}
-use Rattle.floors.specs.Worlds.{floored_step}
+use Rattle.floors.specs.Worlds.{FlooredWorld, FlooredEvent, FlooredResult, Notice, Machine, Raise, Hear, Replace, is_manager, raise_result}
+use Rattle.floors.specs.Worlds.{raise_at, told_with, least_told, hear_result, hear_at, replace_result, replace_at, floored_step}
 use Rattle.floors.specs.Worlds.{machine_result, on_machine}
 use Rattle.floors.proofs.About.{IsOn, effect_about, on_above}
 use Rattle.floors.proofs.Nodes.{below_stays, above_is}

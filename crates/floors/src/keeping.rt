@@ -13,11 +13,10 @@ ghost use Rattle.protocol.specs.Nodes.{NodeState, Memory, Input, Fault, all_play
 ghost use Rattle.protocol.specs.Tables.{keys_voted, table, with_writes};
 ghost use Rattle.protocol.specs.Worlds.{node_at};
 ghost use Rattle.xid.specs.Places.{Place, is_below};
-ghost use Rattle.protocol.specs.Kept.{kept_facts};
+ghost use Rattle.protocol.specs.Kept.{kept_facts, kept_memory};
 ghost use Rattle.floors.specs.Nodes.{is_input_below};
 ghost use Rattle.floors.specs.Worlds.{FlooredWorld, FlooredEvent, floored_step};
 ghost use Rattle.floors.specs.Runs.{IsFlooredReachable, is_put_in};
-ghost use Rattle.protocol.specs.Kept.{kept_memory};
 ghost use Rattle.floors.specs.Kept.{kept_effect};
 
 /// On each input that isn't below its floor a node does the same by what it keeps as by all facts: the answer, the fact that is stored,

@@ -25,9 +25,8 @@ use Rattle.protocol.proofs.Local.{acceptor_local, leader_local, manager_local, v
 use Rattle.floors.specs.Nodes.{is_input_below}
 use Rattle.protocol.specs.Kept.{kept_memory}
 use Rattle.floors.proofs.Forgetting.{leader_forgets}
-use Rattle.resource_manager.specs.Left.{rows_of}
+use Rattle.resource_manager.specs.Left.{rows_of, AreAlike}
 use Rattle.forgetting.specs.Above.{ManagerSays, Says}
-use Rattle.resource_manager.specs.Left.{AreAlike}
 use Rattle.forgetting.proofs.Saying.{votes_same}
 
 -- ---- by few facts and by all, with the same memory

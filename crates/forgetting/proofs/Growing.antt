@@ -39,9 +39,8 @@ use Rattle.resource_manager.proofs.More.{keys_stay, stored_other, table_more}
 use Rattle.resource_manager.proofs.Pieces.{either, stored_append}
 use Rattle.resource_manager.proofs.Standing.{keys_of_vote}
 use Rattle.xid.specs.Places.{Place, is_below}
-use Rattle.resource_manager.specs.Left.{rows_of}
+use Rattle.resource_manager.specs.Left.{rows_of, AreAlike}
 use Rattle.forgetting.specs.Above.{ManagerSays, Says}
-use Rattle.resource_manager.specs.Left.{AreAlike}
 use Rattle.forgetting.proofs.Lists.{filter_among, filter_under, last_after}
 use Rattle.forgetting.proofs.Saying.{name_same}
 

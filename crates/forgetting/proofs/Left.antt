@@ -11,15 +11,13 @@ use Rattle.protocol.specs.Effects.{Config}
 use Rattle.protocol.specs.Facts.{view}
 use Rattle.protocol.specs.Nodes.{NodeState, Memory, all_play}
 use Rattle.xid.specs.Places.{Place, tx_place, is_lower, is_below, is_xid_below, xid_place}
-use Rattle.protocol.specs.Kept.{kept_facts}
+use Rattle.protocol.specs.Kept.{kept_facts, kept_memory}
 use Rattle.floors.specs.Nodes.{is_free_below}
-use Rattle.protocol.specs.Kept.{kept_memory}
 use Rattle.xid.proofs.Places.{not_lower}
 use Rattle.protocol.proofs.Kept.Playing.{all_play_kept}
 use Rattle.protocol.proofs.Kept.Facts.{free_prepared, last_ballot_kept, slot_kept, spent_kept}
-use Rattle.resource_manager.specs.Left.{HasFirstRows, left_facts, left_node, manager_left, rows_of}
+use Rattle.resource_manager.specs.Left.{HasFirstRows, left_facts, left_node, manager_left, rows_of, AreAlike}
 use Rattle.forgetting.specs.Above.{ManagerSays, Says, StandsAbove}
-use Rattle.resource_manager.specs.Left.{AreAlike}
 use Rattle.resource_manager.proofs.Above.{bound_same, rows_same, stored_kept}
 use Rattle.resource_manager.proofs.Leaving.{all_play_left, spent_left, stored_left}
 use Rattle.forgetting.proofs.Lists.{filter_all, filter_under}

@@ -6,9 +6,8 @@ ghost use Rattle.protocol.specs.Nodes.{NodeState, Input, Fault, all_play, restar
 ghost use Rattle.xid.specs.Places.{Place, is_lower};
 ghost use Rattle.floors.specs.Nodes.{floored_node_step, is_free_below, is_unused_above};
 ghost use Rattle.floors.specs.Worlds.{is_manager};
-ghost use Rattle.resource_manager.specs.Left.{HasFirstRows, left_node, rows_of};
+ghost use Rattle.resource_manager.specs.Left.{HasFirstRows, left_node, rows_of, AreAlike};
 ghost use Rattle.forgetting.specs.Above.{CameAlike, StandsAbove};
-ghost use Rattle.resource_manager.specs.Left.{AreAlike};
 
 /// Without a floor a node whose facts play stands above it for itself.
 pub fn nothing_is_forgotten()

@@ -1,17 +1,14 @@
 -- Events of the machine follow a cluster whose nodes work in groups.
 -- Needed by Reached.
-use Rattle.std.proofs.Common.{◌≡◌, ◌∙◌, Bool, true, false, if◌then◌else◌, List, [], ◌∷◌, ◌++◌, Some, inl, inr}
-use Rattle.std.proofs.Common.{refl, sym, ap, subst}
+use Rattle.std.proofs.Common.{◌≡◌, ◌∙◌, Bool, true, false, if◌then◌else◌, List, [], ◌∷◌, ◌++◌, Some, inl, inr, refl, sym, ap, subst}
 use Rattle.std.specs.List.{AllByRecursion, flat_map}
 use Rattle.std.proofs.lemmas.Grind.{flat_map-append}
 use Rattle.ballot.specs.Greatest.{IsIn}
 use Rattle.protocol.specs.declared.decisions.Outgoing.{Outgoing}
 use Rattle.protocol.specs.declared.nodes.NodeId.{NodeId}
 use Rattle.protocol.specs.Effects.{Config}
-use Rattle.protocol.specs.Nodes.{NodeState, Input, Asked, Received, ReceivedNoise}
-use Rattle.protocol.specs.Nodes.{Outcome, node_step}
-use Rattle.protocol.specs.Worlds.{World, Datagram, opening, node_at, datagrams_of}
-use Rattle.protocol.specs.Worlds.{Occurrence, world_step, world_after}
+use Rattle.protocol.specs.Nodes.{NodeState, Input, Asked, Received, ReceivedNoise, Outcome, node_step}
+use Rattle.protocol.specs.Worlds.{World, Datagram, opening, node_at, datagrams_of, Occurrence, world_step, world_after}
 use Rattle.protocol.proofs.Lists.{IsIn-append, IsIn-before, IsIn-after, IsIn-map}
 use Rattle.progress.proofs.Mail.{Letter, letter_of, mail, letters, letters_of, posted_mail}
 use Rattle.progress.proofs.Backed.{AllAmong}

@@ -19,8 +19,7 @@ use Rattle.safety.specs.Runs as reachable
 use Rattle.safety.proofs.World.Reachable as proved
 use Rattle.safety.proofs.World.Events.{reachable_after}
 use Rattle.groups.specs.Runs.{Handed, node_after, CanBeHanded, group_result, is_upkeep, IsReached, Opening, Grouped, Kept, IsSent}
-use Rattle.groups.specs.Runs.{IsMachines}
-use Rattle.groups.specs.Runs.{Happening, Upkept, all_happened}
+use Rattle.groups.specs.Runs.{IsMachines, Happening, Upkept, all_happened}
 use Rattle.groups.proofs.Steps.{put, put_twice, step_comes}
 use Rattle.groups.proofs.Following.{Follows, led, after_append, same_append, group_followed, mailed, there_next}
 use Rattle.groups.proofs.Upkeep.{upkeep_nodes, upkeep_net, upkeep_answer}

@@ -11,8 +11,7 @@ use Rattle.protocol.specs.declared.events.Event.TheVariants.{Restart, Compact, T
 use Rattle.protocol.specs.declared.nodes.NodeId.{NodeId}
 use Rattle.protocol.specs.Effects.{Config}
 use Rattle.protocol.specs.Nodes.{NodeState, Fault, NoFault, NoMemoryBefore, NoMemoryAt, RecordFails, Outcome, restart_outcome}
-use Rattle.protocol.specs.Nodes.{compact_outcome}
-use Rattle.protocol.specs.Nodes.{all_play, answer_outcome, down_node, empty_memory}
+use Rattle.protocol.specs.Nodes.{compact_outcome, all_play, answer_outcome, down_node, empty_memory}
 use Rattle.protocol.specs.Worlds.{World, StepResult, node_at, set_node, datagrams_of, if_found, outcome_result, answer_result}
 use Rattle.protocol.specs.Worlds.{dispatch, world_step}
 use Rattle.groups.specs.Runs.{is_upkeep}

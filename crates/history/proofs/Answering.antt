@@ -1,8 +1,7 @@
 -- Each answer of a run is right by the steps before it.
 -- Needed by `answers_look_back`; crates floored_history, audit and cluster_run.
-use Rattle.std.proofs.Common.{◌≡◌, inl, inr, ◌∙◌, ℕ, zero, suc, ◌+◌, ◌<◌, Bool, true, false, not, ◌&&◌, if◌then◌else◌, MatchBool, List}
-use Rattle.std.proofs.Common.{[], ◌∷◌}
-use Rattle.std.proofs.Common.{length, Option, Some, None, refl, sym, ap, subst, nat_lt, arith}
+use Rattle.std.proofs.Common.{◌≡◌, inl, inr, ◌∙◌, ℕ, zero, suc, ◌+◌, ◌<◌, Bool, true, false, not, ◌&&◌, if◌then◌else◌, MatchBool, List, []}
+use Rattle.std.proofs.Common.{◌∷◌, length, Option, Some, None, refl, sym, ap, subst, nat_lt, arith}
 use Rattle.std.specs.Prelude.{slice_get, slice_set}
 use Rattle.std.specs.Option.{option_map_or, option_and_then}
 use Rattle.std.proofs.lemmas.Bool.{cond_both, both_ways, false_from_ne_true, and_left, and_right, and_from, ltb-true}

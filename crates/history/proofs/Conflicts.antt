@@ -44,8 +44,7 @@ use Rattle.history.proofs.Told.{sound}
 use Rattle.history.proofs.Kept.{kept_ever}
 use Rattle.history.proofs.TablesBack.{committed_is, commit_is}
 use Rattle.history.proofs.Orders.{IsFirst, AreOnce, either, first_in, first_alone, first_commit, in_commit, commit_keeps, commit_there}
-use Rattle.history.proofs.Orders.{once_commit}
-use Rattle.history.proofs.Orders.{once_push, find_more}
+use Rattle.history.proofs.Orders.{once_commit, once_push, find_more}
 
 -- ---- a manager's facts, through a run
 

@@ -12,8 +12,7 @@ use Rattle.xid.specs.declared.refusals.Refusal.TheVariants.{NoSuch, Forged, Down
 use Rattle.protocol.specs.Vocabulary.{NodeId, Event, Ask, Deliver, Lose, Cut, Noise, Tear, Restart, Compact, Done, Refused, Sent, Step}
 use Rattle.protocol.specs.Effects.{Config}
 use Rattle.protocol.specs.Nodes.{NodeState, Input, Asked, Received, ReceivedNoise, Fault, NoMemoryBefore, Outcome, node_step}
-use Rattle.protocol.specs.Nodes.{restart_outcome}
-use Rattle.protocol.specs.Nodes.{compact_outcome}
+use Rattle.protocol.specs.Nodes.{restart_outcome, compact_outcome}
 use Rattle.protocol.specs.Worlds.{Occurrence, trace, world_after, World, Datagram, StepResult, opening, node_at, set_node, answer_result}
 use Rattle.protocol.specs.Worlds.{if_found, outcome_result, at_node}
 use Rattle.protocol.specs.Worlds.{datagram_at, mark_at, with_mark, dispatch, world_step, numbered, step_of}

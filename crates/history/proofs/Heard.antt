@@ -22,8 +22,7 @@ use Rattle.protocol.specs.Effects.{Config, Effect, is_inside}
 use Rattle.ballot.specs.Ballots.{next_of}
 use Rattle.protocol.specs.Facts.{last_ballot}
 use Rattle.protocol.specs.LeaderMemory.{LeaderMemory, StoredBallots, status_of, with_met, with_heard, with_all_heard, is_counted}
-use Rattle.protocol.specs.Leaders.{is_final, is_current, on_commit_call, on_leader_timeout, on_1b, on_2b}
-use Rattle.protocol.specs.Leaders.{on_leader_message}
+use Rattle.protocol.specs.Leaders.{is_final, is_current, on_commit_call, on_leader_timeout, on_1b, on_2b, on_leader_message}
 use Rattle.protocol.specs.Nodes.{Memory, empty_memory, NodeState, new_node, Input, Asked, Received, ReceivedNoise, Fault, NoMemoryBefore}
 use Rattle.protocol.specs.Nodes.{NoMemoryAt, RecordFails, all_play, is_message_inside, effect_of, Outcome, node_step, restart_outcome}
 use Rattle.protocol.specs.Nodes.{compact_outcome}

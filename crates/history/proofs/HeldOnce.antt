@@ -13,8 +13,7 @@ use Rattle.protocol.specs.Managers.{Branch, all_branches, view_named}
 use Rattle.protocol.specs.Nodes.{NodeState, all_play}
 use Rattle.protocol.specs.Worlds.{World, step_of, world_step}
 use Rattle.branch_table.proofs.Views.{view_of}
-use Rattle.protocol.specs.Holds.{IsIn}
-use Rattle.protocol.specs.Holds.{AreApart}
+use Rattle.protocol.specs.Holds.{IsIn, AreApart}
 use Rattle.protocol.proofs.Manager.Apart.{none_apart}
 use Rattle.protocol.proofs.Manager.Prepared as holds
 use Rattle.history.specs.LookingBack.{branch_back}

@@ -1,8 +1,7 @@
 -- What a leader has is what looking back over its lines says, in every run.
 -- Needed by `heard_is_what_came`; StatusAnswers.
 use Rattle.std.proofs.Common.{◌≡◌, ◌⊎◌, inl, inr, ◌∙◌, ℕ, suc, Bool, true, false, not, ◌&&◌, ◌||◌, if◌then◌else◌, eq-eqb, List, [], ◌∷◌}
-use Rattle.std.proofs.Common.{◌++◌}
-use Rattle.std.proofs.Common.{Option, Some, None, unwrap_or, refl, sym, ap, subst, nat_lt, nat_le, length}
+use Rattle.std.proofs.Common.{◌++◌, Option, Some, None, unwrap_or, refl, sym, ap, subst, nat_lt, nat_le, length}
 use Rattle.std.specs.Prelude.{◌<◌, filter, filter_map}
 use Rattle.std.specs.List.{list_any, list_all, flat_map}
 use Rattle.std.specs.Option.{option_map, option_map_or, option_and_then}
@@ -23,10 +22,9 @@ use Rattle.protocol.specs.Facts.{last_ballot}
 use Rattle.protocol.specs.LeaderMemory.{LeaderMemory, StoredBallots, current, is_decided, nothing_heard, status_of}
 use Rattle.wire.specs.Messages.{message_tx}
 use Rattle.xid.specs.declared.transaction.Vote.TheVariants as votes
-use Rattle.protocol.specs.Nodes.{Memory, NodeState, new_node, Input, Asked, Received, ReceivedNoise, Fault, NoMemoryBefore}
-use Rattle.protocol.specs.Nodes.{NoMemoryAt, RecordFails, all_play, is_message_inside, effect_of, Outcome, node_step, restart_outcome}
-use Rattle.protocol.specs.Nodes.{compact_outcome, accepts_input, answer_outcome, effect_outcome, finished_append}
-use Rattle.protocol.specs.Nodes.{stopped_append}
+use Rattle.protocol.specs.Nodes.{Memory, NodeState, new_node, Input, Asked, Received, ReceivedNoise, Fault, NoMemoryBefore, NoMemoryAt}
+use Rattle.protocol.specs.Nodes.{RecordFails, all_play, is_message_inside, effect_of, Outcome, node_step, restart_outcome, compact_outcome}
+use Rattle.protocol.specs.Nodes.{accepts_input, answer_outcome, effect_outcome, finished_append, stopped_append}
 use Rattle.protocol.specs.Worlds.{World, Datagram, StepResult, opening, node_at, set_node, answer_result, outcome_result, if_found, at_node}
 use Rattle.protocol.specs.Worlds.{datagram_at, with_mark, dispatch, world_step, datagrams_of, numbered, change_of, step_of}
 use Rattle.protocol.specs.declared.decisions.Outgoing.{Outgoing}

@@ -1,8 +1,7 @@
 -- What the lines of a step say that a leader sent, by the sends of its rules.
 -- Needed by LeaderMoves and LeaderRuns.
-use Rattle.std.proofs.Common.{◌≡◌, ◌≢◌, inl, inr, ◌∙◌, ℕ, suc, Bool, true, false, if◌then◌else◌, eq-eqb, List, [], ◌∷◌, ◌++◌, map}
-use Rattle.std.proofs.Common.{Option, Some}
-use Rattle.std.proofs.Common.{None, refl, sym, ap, subst, zero, arith, unwrap_or}
+use Rattle.std.proofs.Common.{◌≡◌, ◌≢◌, inl, inr, ◌∙◌, ℕ, suc, Bool, true, false, if◌then◌else◌, eq-eqb, List, [], ◌∷◌, ◌++◌, map, Option}
+use Rattle.std.proofs.Common.{Some, None, refl, sym, ap, subst, zero, arith, unwrap_or}
 use Rattle.std.specs.Prelude.{◌<◌, filter_map, find}
 use Rattle.std.specs.List.{flat_map, list_any, cons_option, range_with_len}
 use Rattle.xid.specs.Transactions.{TxParts, participants}

@@ -23,7 +23,7 @@ use Rattle.protocol.specs.Vocabulary.{Change, NodeId, A, L, R, Answer, Done, Cod
 use Rattle.protocol.specs.Vocabulary.{Restart, Compact, Request, Call, Recover, Timeout, Action}
 use Rattle.protocol.specs.Branches.{is_done}
 use Rattle.protocol.specs.Effects.{Config, Effect, is_inside}
-use Rattle.protocol.specs.Facts.{is_prepared_view, is_open_view, view, vote_in, is_ended, is_spent}
+use Rattle.protocol.specs.Facts.{is_prepared_view, is_open_view, view, vote_in, is_ended, is_spent, with_fact}
 use Rattle.protocol.specs.Managers.{Branch, branches_without, stored_votes, on_call, idle_keys, first_vote, on_prepare}
 use Rattle.protocol.specs.Managers.{on_manager_message, on_manager_timeout}
 use Rattle.protocol.specs.Nodes.{Memory, NodeState, new_node, Input, Asked, Received, ReceivedNoise, Fault, NoMemoryBefore}
@@ -33,7 +33,6 @@ use Rattle.protocol.specs.Nodes.{accepts_input, answer_outcome, Outcome, all_pla
 use Rattle.protocol.specs.Tables.{table}
 use Rattle.protocol.specs.Worlds.{World, StepResult, node_at, set_node, change_of, outcome_result, answer_result, if_found, at_node}
 use Rattle.protocol.specs.Worlds.{datagram_at, with_mark, dispatch, world_step, view_number}
-use Rattle.protocol.specs.Facts.{with_fact}
 use Rattle.protocol.specs.Holds.{AreApart}
 use Rattle.protocol.proofs.Manager.Apart.{manager_stays_apart}
 use Rattle.protocol.proofs.Manager.Effects.{IsManagerFact, manager_effect_is}

@@ -1,7 +1,6 @@
 -- What a committed transaction has read is what the serial run shows it.
 -- Needed by `reads_are_serial`; crates floored_history, audit and cluster_run.
-use Rattle.std.proofs.Common.{◌≡◌, ◌≢◌, inl, inr, ◌∙◌, ℕ, Bool, true, false, if◌then◌else◌, List, [], ◌∷◌, ◌++◌, Option, Some}
-use Rattle.std.proofs.Common.{None}
+use Rattle.std.proofs.Common.{◌≡◌, ◌≢◌, inl, inr, ◌∙◌, ℕ, Bool, true, false, if◌then◌else◌, List, [], ◌∷◌, ◌++◌, Option, Some, None}
 use Rattle.std.proofs.Common.{append_assoc, append-nil, unwrap_or, refl, sym, ap, subst}
 use Rattle.std.specs.Prelude.{filter, filter_map, find, fold}
 use Rattle.std.specs.List.{list_any, cons_option}
@@ -50,9 +49,8 @@ use Rattle.protocol.proofs.DoneCalls.{IsReadyFor, ready}
 use Rattle.history.proofs.Kept.{IsKept, kept_ever, started, voted_undone}
 use Rattle.history.proofs.KeyCourses.{IsCourse, Alive, Voted, Gone, Aborted, IsVoted, course_moved}
 use Rattle.history.proofs.Moves.{manager_in, branches_of, IsMove, Quiet, Restarted, Called, Stored, IsCalled, event_moved}
-use Rattle.history.proofs.Orders.{IsFirst, once_filter, first_alone, first_more, first_filtered, find_more, one_way}
-use Rattle.history.proofs.Orders.{same_order}
-use Rattle.history.proofs.Orders.{in_before, first_before, before_first, first_those, once_before}
+use Rattle.history.proofs.Orders.{IsFirst, once_filter, first_alone, first_more, first_filtered, find_more, one_way, same_order, in_before}
+use Rattle.history.proofs.Orders.{first_before, before_first, first_those, once_before}
 use Rattle.branch_table.proofs.TableRows.{AscendRows, writes_ascend, first_ascend}
 use Rattle.history.proofs.Runs.{IsRun, AtFirst, Then, reached, facts_in}
 use Rattle.history.proofs.SerialTables as tables

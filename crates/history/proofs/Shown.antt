@@ -19,8 +19,7 @@ use Rattle.protocol.specs.Nodes.{NodeState}
 use Rattle.branch_table.specs.OneCall.{view_in_state}
 use Rattle.branch_table.proofs.Views.{view_of}
 use Rattle.protocol.specs.Holds.{AreNamedOnce, IsIn}
-use Rattle.protocol.proofs.Lists.{IsIn-map, IsIn-before, found_any, found_among, any_find}
-use Rattle.protocol.proofs.Lists.{filter_map_gives}
+use Rattle.protocol.proofs.Lists.{IsIn-map, IsIn-before, found_any, found_among, any_find, filter_map_gives}
 use Rattle.protocol.proofs.Manager.Apart.{bound_stored, stored_bound}
 use Rattle.protocol.proofs.Manager.Prepared.{prepared_or_not, names_held_once}
 use Rattle.protocol.proofs.Manager.Views.{prepared_shows}

@@ -28,10 +28,9 @@ use Rattle.protocol.specs.Worlds.{World, node_at, step_of, world_step}
 use Rattle.safety.proofs.World.Changes.{view_other, or_none}
 use Rattle.branch_table.specs.OneCall.{view_in_state, view_after_done}
 use Rattle.branch_table.proofs.Views.{view_of}
-use Rattle.protocol.specs.Holds.{AreInOrder, AreNamedOnce, IsIn, names_of}
+use Rattle.protocol.specs.Holds.{AreInOrder, AreNamedOnce, IsIn, names_of, AreApart}
 use Rattle.safety.specs.Standing.{HasVote}
 use Rattle.protocol.proofs.Lists.{IsIn-push, IsIn-map, all_each}
-use Rattle.protocol.specs.Holds.{AreApart}
 use Rattle.protocol.proofs.Manager.Apart.{none_apart, idle_branch, name_of}
 use Rattle.protocol.proofs.Manager.Effects.{IsManagerFact}
 use Rattle.protocol.proofs.Manager.Keys.{names_name, spent_by}

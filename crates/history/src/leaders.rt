@@ -13,8 +13,7 @@ ghost use Rattle.protocol.specs.Holds.{IsIn};
 ghost use Rattle.history.specs.Answers.{IsAmple};
 ghost use Rattle.history.specs.Lines.{history};
 ghost use Rattle.history.specs.Heard.{came_since};
-ghost use Rattle.history.specs.LeaderBack.{heard_back, current_back, is_met_back, proposed_back, status_back};
-ghost use Rattle.history.specs.LeaderBack.{status_answer};
+ghost use Rattle.history.specs.LeaderBack.{heard_back, current_back, is_met_back, proposed_back, status_back, status_answer};
 
 /// Each message that counts with a leader came to it since its last restart: a datagram was delivered to it then that stands for it.
 pub fn heard_came()

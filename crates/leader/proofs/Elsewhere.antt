@@ -15,8 +15,7 @@ use Rattle.wire.specs.declared.items.InstanceAccept.{InstanceAccept}
 use Rattle.ballot.specs.Majority.{is_majority}
 use Rattle.protocol.specs.Facts.{instance_eq, vote_eq}
 use Rattle.protocol.specs.LeaderMemory.{LeaderMemory, StoredBallots, current, has_reported, message_report, is_report_of, is_proposed}
-use Rattle.protocol.specs.LeaderMemory.{is_accept_of}
-use Rattle.protocol.specs.LeaderMemory.{ballot_told, is_decided, is_counted, with_heard, with_all_heard, with_met, with_begun}
+use Rattle.protocol.specs.LeaderMemory.{is_accept_of, ballot_told, is_decided, is_counted, with_heard, with_all_heard, with_met, with_begun}
 use Rattle.protocol.specs.LeaderMemory.{with_proposed, is_phase_1b}
 use Rattle.protocol.specs.PaperItems.{report_messages, accept_messages_of}
 use Rattle.protocol.proofs.Kept.Leaders.{last_false}

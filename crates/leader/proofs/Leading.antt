@@ -26,14 +26,12 @@ use Rattle.protocol.specs.Leaders as rules
 use Rattle.protocol.specs.Leaders.{is_final, outcome_messages, phase_1a}
 use Rattle.leader.specs.declared.decision.LeaderDecision.{LeaderDecision}
 use Rattle.leader.specs.Courses.{CourseParts, CourseStands, status_in, after_meeting, after_1b, proposals_after_1b, after_2b}
-use Rattle.leader.specs.Courses.{status_after_2b, after_beginning, fresh, fresh_instance, InstanceStands}
-use Rattle.leader.specs.Courses.{after_ballot}
+use Rattle.leader.specs.Courses.{status_after_2b, after_beginning, fresh, fresh_instance, InstanceStands, after_ballot}
 use Rattle.leader.specs.Orders.{proposal_messages, phase_1a_by}
 use Rattle.leader.specs.Decisions.{shown}
 use Rattle.leader.specs.Places.{CoursesParts, IsChanged, IsKept}
-use Rattle.leader.specs.Leaders.{taken_over, taken_over_if}
-use Rattle.leader.specs.Leaders.{LeaderParts, StandsForBallots, course_of, commit_messages, Rule, Follows, FollowsOrRefuses}
-use Rattle.leader.specs.Leaders.{IsSame, are_below}
+use Rattle.leader.specs.Leaders.{taken_over, taken_over_if, LeaderParts, StandsForBallots, course_of, commit_messages, Rule, Follows}
+use Rattle.leader.specs.Leaders.{FollowsOrRefuses, IsSame, are_below}
 use Rattle.leader.proofs.Basics.{tx_self, same_tx}
 use Rattle.leader.proofs.Elsewhere.{same_then, course_same, met_elsewhere, begun_elsewhere}
 use Rattle.leader.proofs.Beginning.{meet_step, begin_step}

@@ -27,15 +27,13 @@ use Rattle.protocol.specs.PaperItems.{report_messages, accept_messages_of}
 use Rattle.leader.specs.declared.instance.InstanceCourse.{InstanceCourse}
 use Rattle.leader.specs.declared.proposals.Proposal.{Proposal}
 use Rattle.leader.specs.Courses.{CourseParts, InstanceStands, CourseStands, status_in, status_by, after_meeting, after_reports}
-use Rattle.leader.specs.Courses.{after_proposals}
-use Rattle.leader.specs.Courses.{proposals_of, after_1b, proposals_after_1b, after_accepts, after_2b, status_after_2b}
+use Rattle.leader.specs.Courses.{after_proposals, proposals_of, after_1b, proposals_after_1b, after_accepts, after_2b, status_after_2b}
 use Rattle.leader.specs.Orders.{proposal_messages}
 use Rattle.leader.specs.Places.{CoursesParts, IsChanged, IsKept}
 use Rattle.leader.specs.Leaders.{LeaderParts, StandsForBallots, course_of, commit_messages}
 use Rattle.leader.proofs.Basics.{same_tx}
 use Rattle.leader.proofs.Elsewhere.{SameOn, same_refl, same_then, course_same, met_elsewhere, reports_elsewhere, accepts_elsewhere}
-use Rattle.leader.proofs.Elsewhere.{proposed_elsewhere}
-use Rattle.leader.proofs.Elsewhere.{proposal_kinds}
+use Rattle.leader.proofs.Elsewhere.{proposed_elsewhere, proposal_kinds}
 use Rattle.leader.proofs.Telling.{accepts_step}
 use Rattle.leader.proofs.Reporting.{reports_step, reports_leave}
 use Rattle.leader.proofs.Beginning.{meet_step}

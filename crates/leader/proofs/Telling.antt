@@ -19,9 +19,8 @@ use Rattle.protocol.specs.LeaderMemory.{LeaderMemory, StoredBallots, is_accept_o
 use Rattle.protocol.specs.PaperItems.{accept_messages_of}
 use Rattle.leader.specs.declared.instance.InstanceCourse.{InstanceCourse}
 use Rattle.leader.specs.declared.instance.Told.{Told}
-use Rattle.leader.specs.Courses.{CourseParts, InstanceStands, CourseStands, nobody, joined, is_place_of, told_of, with_member}
-use Rattle.leader.specs.Courses.{first_told, told_by}
-use Rattle.leader.specs.Courses.{with_decided, Telling, after_accept, telling_of, after_accepts}
+use Rattle.leader.specs.Courses.{CourseParts, InstanceStands, CourseStands, nobody, joined, is_place_of, told_of, with_member, first_told}
+use Rattle.leader.specs.Courses.{told_by, with_decided, Telling, after_accept, telling_of, after_accepts}
 use Rattle.leader.proofs.Basics.{and_no, tx_self, nat_turned, is_false}
 
 -- ---- an acceptor more

@@ -5,11 +5,9 @@ ghost use Rattle.xid.specs.Limits.{most_acceptors, most_branches};
 ghost use Rattle.xid.specs.Transactions.{participants};
 ghost use Rattle.xid.specs.declared.refusals.Refusal.TheVariants.{NoMemory};
 ghost use Rattle.protocol.specs.Leaders.{is_final as is_final_of};
-ghost use Rattle.leader.specs.Courses.{fresh, fresh_instance, proposals_of as proposals_for, proposal_at as proposal_for};
-ghost use Rattle.leader.specs.Courses.{after_accept};
+ghost use Rattle.leader.specs.Courses.{fresh, fresh_instance, proposals_of as proposals_for, proposal_at as proposal_for, after_accept};
 ghost use Rattle.leader.specs.Courses.{after_each_accept, after_accepts, after_meeting, after_beginning, after_ballot, status_in};
-ghost use Rattle.leader.specs.Courses.{status_by as status_by_rows};
-ghost use Rattle.leader.specs.Courses.{counts_report, proposals_after_1b, after_1b, after_2b, status_after_2b};
+ghost use Rattle.leader.specs.Courses.{status_by as status_by_rows, counts_report, proposals_after_1b, after_1b, after_2b, status_after_2b};
 ghost use Rattle.leader.specs.Courses.{is_place_of, told_once, makes_majority, with_decided, with_nothing_reported, with_reports};
 ghost use Rattle.leader.specs.Courses.{with_proposals};
 

@@ -2,8 +2,7 @@
 -- go.
 -- Needed by `OutboxPort::send`.
 use Rattle.std.proofs.Common.{◌≡◌, ◌∙◌, ℕ, ◌+◌, ◌<◌, ◌≤◌, Bool, true, MatchBool, List, [], ◌++◌, length, get_or, Some, Ok, inl, inr, sym}
-use Rattle.std.proofs.Common.{ap}
-use Rattle.std.proofs.Common.{subst, arith, length-append, ◌&&◌}
+use Rattle.std.proofs.Common.{ap, subst, arith, length-append, ◌&&◌}
 use Rattle.std.proofs.lemmas.Bool.{le-leb}
 use Rattle.std.proofs.lemmas.List.{get_or_default}
 use Rattle.byteorder.specs.Endian.{big_bytes}

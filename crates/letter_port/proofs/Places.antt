@@ -1,7 +1,6 @@
 -- Each node of a cluster stands in one place, and each place has one node. So what is put into the letter in a place is for its node alone.
 -- Needed by Transfers.
-use Rattle.std.proofs.Common.{◌≡◌, ◌≢◌, ◌∙◌, ℕ, ◌+◌, Bool, true, false, ltb, if◌then◌else◌, [], Option, Some, None}
-use Rattle.std.proofs.Common.{refl, sym, ap}
+use Rattle.std.proofs.Common.{◌≡◌, ◌≢◌, ◌∙◌, ℕ, ◌+◌, Bool, true, false, ltb, if◌then◌else◌, [], Option, Some, None, refl, sym, ap}
 use Rattle.protocol.specs.declared.nodes.NodeId.{NodeId}
 use Rattle.protocol.specs.declared.nodes.NodeId.TheVariants.{A, L, R}
 use Rattle.protocol.specs.Worlds.{place}

@@ -1,6 +1,5 @@
 -- What goes out to nodes, and the letters in which it goes.
-use Rattle.std.specs.Prelude.{◌≡◌, ◌≢◌, ◌≤◌, ℕ, Bool, ◌&&◌, nat_le, if◌then◌else◌, List, [], ◌∷◌, ◌++◌, length}
-use Rattle.std.specs.Prelude.{Result}
+use Rattle.std.specs.Prelude.{◌≡◌, ◌≢◌, ◌≤◌, ℕ, Bool, ◌&&◌, nat_le, if◌then◌else◌, List, [], ◌∷◌, ◌++◌, length, Result}
 use Rattle.std.specs.List.{AllByRecursion}
 use Rattle.xid.specs.declared.refusals.Refusal.{Refusal}
 use Rattle.wire.specs.Grammar.{spelling}

@@ -3,8 +3,7 @@ use Rattle.std.proofs.Common.{◌≡◌, ℕ, Bool, true, false, ◌||◌, List,
 use Rattle.std.specs.Str.{bytes_eq}
 use Rattle.net_script.specs.Basics.{A, L, R, Start, Put, Del, Get, End, EndFail, Rollback, Request, Call, Recover, Timeout, Event, Ask}
 use Rattle.net_script.specs.Basics.{Deliver, Lose, Cut, Noise, Tear, Restart, Compact, Raise, Hear, Replace, Do, Flow, code_number}
-use Rattle.net_script.specs.Basics.{number_of, XaCode, Refusal}
-use Rattle.net_script.specs.Basics.{Standing, Answer, Done, Code, Value, NoValue, Xids, Stands, Refused}
+use Rattle.net_script.specs.Basics.{number_of, XaCode, Refusal, Standing, Answer, Done, Code, Value, NoValue, Xids, Stands, Refused}
 use Rattle.net_script.specs.Events.{IsEvent, event_word, event_words}
 use Rattle.net_script.specs.Items.{IsCommand, command_words}
 use Rattle.net_script.specs.Spelling.{no_words, ◌&◌, IsCommon, IsSpelling, list_of_words}

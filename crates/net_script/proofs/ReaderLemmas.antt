@@ -10,8 +10,7 @@ use Rattle.std.proofs.lemmas.Option.{same_Some}
 use Rattle.std.proofs.lemmas.List.Concat.{flat_map-append}
 use Rattle.std.proofs.lemmas.List.{append-nil, append_assoc, length-append, length-map, length_push, map_push, take_at, take-append-drop}
 use Rattle.xid.specs.Text.{lacks}
-use Rattle.net_script.specs.Basics.{Refusal, TxParts, Change, Sent, Told, BadScript, BadConfig, Sizes, Entry, Trace, LastEntry}
-use Rattle.net_script.specs.Basics.{SoFar}
+use Rattle.net_script.specs.Basics.{Refusal, TxParts, Change, Sent, Told, BadScript, BadConfig, Sizes, Entry, Trace, LastEntry, SoFar}
 use Rattle.net_script.specs.Basics.{TraceLine}
 use Rattle.net_script.specs.declared.said.Heard.{Heard}
 use Rattle.net_script.specs.declared.trace_lines.TraceLine.TheVariants.{Cluster, Contents, Happened, Served, Changed, Datagram}
@@ -22,8 +21,7 @@ use Rattle.net_script.specs.TraceLines.{IsTraceLine, trace_line_text, whole_line
 use Rattle.net_script.specs.TraceReading.{IsBegun, IsTrace, ended_lines, CanBeginTrace, IsTraceFault, RefusesTrace}
 use Rattle.net_script.specs.TraceReaders.{filled, noticed, filled_by, noticed_by, told_by, last_of, so_far_of, may_follow, after_line}
 use Rattle.net_script.specs.TraceReaders.{follow, with_now, with_sent, with_notice, at_last, grown, opened, begun_with, lines_so_far}
-use Rattle.net_script.specs.TraceReaders.{ReaderParts}
-use Rattle.net_script.specs.TraceReaders.{HasRead, ReadsOn, IsRead, as_line, Follows, GivesHeard}
+use Rattle.net_script.specs.TraceReaders.{ReaderParts, HasRead, ReadsOn, IsRead, as_line, Follows, GivesHeard}
 use Rattle.net_script.specs.Telling.{IsHeard}
 use Rattle.net_script.proofs.Arms.{texts_injective, texts_go_on}
 use Rattle.net_script.proofs.LawLemmas.{one_line}

@@ -1,11 +1,10 @@
 -- Items of a script, their order, and the lines of a text as far as they were read: for `read_script` and `line_of`.
-use Rattle.std.proofs.Common.{◌≡◌, ℕ, ◌<◌, Bool, true, false, List, [], ◌∷◌, ◌++◌, length, drop, map, refl, sym, ap, ◌∙◌}
-use Rattle.std.proofs.Common.{arith, codes, Result, Ok, Err, suc, ◌+◌, ◌≤◌, not, take, inl, inr, Option, Some, None}
-use Rattle.std.specs.List.{All, list_all}
+use Rattle.std.proofs.Common.{◌≡◌, ℕ, ◌<◌, Bool, true, false, List, [], ◌∷◌, ◌++◌, length, drop, map, refl, sym, ap, ◌∙◌, arith, codes}
+use Rattle.std.proofs.Common.{Result, Ok, Err, suc, ◌+◌, ◌≤◌, not, take, inl, inr, Option, Some, None, ltb, cond, eqb, eqb-true}
+use Rattle.std.specs.List.{All, list_all, AllPairs}
 use Rattle.std.specs.Str.{bytes_eq}
-use Rattle.std.proofs.lemmas.List.{length-append, nil_from_length, append-nil, map_push, map-append, take_at, append_assoc}
-use Rattle.std.proofs.lemmas.List.{length_push}
-use Rattle.std.proofs.lemmas.List.Elements.{All-cons, All-append, All-map, All-push, filter-append, All-nil}
+use Rattle.std.proofs.lemmas.List.{length-append, nil_from_length, append-nil, map_push, map-append, take_at, append_assoc, length_push}
+use Rattle.std.proofs.lemmas.List.Elements.{All-cons, All-append, All-map, All-push, filter-append, All-nil, All-head, All-tail}
 use Rattle.std.proofs.lemmas.List.Quantifiers.{all_pairs_push}
 use Rattle.net_script.specs.Basics.{Stop, Wrong, Memory, Sizes, Table, Command, Do, Flow, Script, Item}
 use Rattle.net_script.specs.declared.items.Item.TheVariants.{Cluster, Contents, Then}
@@ -14,18 +13,14 @@ use Rattle.net_script.specs.Spelling.{no_words, ◌&◌}
 use Rattle.net_script.specs.Laws.{literal, a_number, a_table, a_sizes}
 use Rattle.net_script.specs.Scripts.{script_items, Says, ReadsLine, IsScript, is_note, lines_kept, SpelledBy, CanBegin}
 use Rattle.net_script.specs.Scripts.{IsScriptFault, items_so_far, IsLineOf, takes_table, script_with, AddsItem}
-use Rattle.std.specs.List.{AllPairs}
 use Rattle.std.specs.Option.{ForSome}
-use Rattle.std.proofs.Common.{ltb, cond, eqb, eqb-true}
 use Rattle.std.proofs.lemmas.Bool.{lt-ltb, and_parts}
 use Rattle.std.proofs.lemmas.Bool.Decides.{nat_tests}
 use Rattle.std.proofs.lemmas.Option.{cond_some, none-some, same_Some}
-use Rattle.std.proofs.lemmas.List.Elements.{All-head, All-tail}
 use Rattle.net_script.proofs.WordLemmas.{differ}
 use Rattle.net_script.proofs.Arms.{Arm, made_of, arm_said, apart, HasOneText, texts_go_on}
 use Rattle.net_script.proofs.EventLemmas.{is_other, event_apart, event_injective, flow_arm}
-use Rattle.net_script.proofs.DraftLemmas.{run, run_append, Apart, managers_before, others_all, all_others}
-use Rattle.net_script.proofs.DraftLemmas.{is_other as is_free}
+use Rattle.net_script.proofs.DraftLemmas.{run, run_append, Apart, managers_before, others_all, all_others, is_other as is_free}
 use Rattle.xid.proofs.Texts.{first_true, second_true, both_true}
 use Rattle.std.proofs.lemmas.List.Folds.{list_all-append}
 use Rattle.net_script.specs.Lines.{lines, words, is_plain, IsFirstPiece}

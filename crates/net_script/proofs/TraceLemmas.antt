@@ -1,15 +1,13 @@
 -- The line of a datagram by its bytes, and texts put one after another: for the writers of traces.
-use Rattle.std.proofs.Common.{◌≡◌, ◌≢◌, ℕ, List, [], ◌++◌, refl, sym, ap, ◌∙◌}
-use Rattle.std.proofs.Common.{Option, Some, None, Result, Ok, Err, OnOk, OnErr, IfErr}
+use Rattle.std.proofs.Common.{◌≡◌, ◌≢◌, ℕ, List, [], ◌++◌, refl, sym, ap, ◌∙◌, Option, Some, None, Result, Ok, Err, OnOk, OnErr, IfErr}
 use Rattle.std.specs.Option.{option_map_or}
 use Rattle.std.proofs.lemmas.List.{append-nil, append_assoc}
 use Rattle.xid.specs.Text.{Extends}
 use Rattle.xid.specs.declared.refusals.Refusal.{Refusal}
 use Rattle.wire.specs.declared.message.Kind.{Kind}
 use Rattle.wire.specs.Decoding.{message_at}
-use Rattle.wire.specs.Grammar.{Spells, spelling}
+use Rattle.wire.specs.Grammar.{Spells, spelling, tx_spelling}
 use Rattle.wire.specs.Messages.{IsMessage}
-use Rattle.wire.specs.Grammar.{tx_spelling}
 use Rattle.wire.specs.Spelled.{IsSpelled, tx_spelled}
 use Rattle.wire.specs.Versions.{version_2}
 use Rattle.wire.proofs.DecodingLemmas.{found, spelled}

@@ -1,9 +1,7 @@
 -- The words of messages, as a trace prints them.
 use Rattle.std.specs.Prelude.{ℕ, ◌<◌, ◌^◌, List, [], ◌∷◌, ◌++◌, map, codes, decimal, Option, Some, None}
-use Rattle.net_script.specs.Basics.{TxParts, IsTx, tx_text, message_tx, Vote, Kind, Prepare, P1a, P1b, P2a, P2b}
-use Rattle.net_script.specs.Basics.{Commit, Abort, B1a, B1b, B2b, A}
-use Rattle.net_script.specs.Basics.{R}
-use Rattle.net_script.specs.Basics.{InstanceReport, InstanceAccept}
+use Rattle.net_script.specs.Basics.{TxParts, IsTx, tx_text, message_tx, Vote, Kind, Prepare, P1a, P1b, P2a, P2b, Commit, Abort, B1a, B1b}
+use Rattle.net_script.specs.Basics.{B2b, A, R, InstanceReport, InstanceAccept}
 use Rattle.net_script.specs.declared.message_words.Reported.{Reported}
 use Rattle.net_script.specs.declared.message_words.Said.{Said}
 use Rattle.net_script.specs.Lines.{node_text}

@@ -1,7 +1,6 @@
 -- One message to several receivers.
 -- Needed by crate cluster.
-use Rattle.std.proofs.Common.{◌≡◌, List, [], ◌∷◌, ◌++◌, map}
-use Rattle.std.proofs.Common.{refl, sym, ap, ◌∙◌, subst, append_assoc}
+use Rattle.std.proofs.Common.{◌≡◌, List, [], ◌∷◌, ◌++◌, map, refl, sym, ap, ◌∙◌, subst, append_assoc}
 use Rattle.std.proofs.lemmas.List.{map_push}
 use Rattle.wire.specs.declared.message.Kind.{Kind}
 use Rattle.protocol.specs.declared.nodes.NodeId.{NodeId}

@@ -15,9 +15,8 @@ use Rattle.protocol.specs.declared.nodes.NodeId.{NodeId}
 use Rattle.protocol.specs.declared.nodes.NodeId.TheVariants.{A, L, R}
 use Rattle.protocol.specs.declared.states.View.{View}
 use Rattle.protocol.specs.Effects.{Config}
-use Rattle.protocol.specs.Facts.{view, is_prepared_view, is_open_view}
+use Rattle.protocol.specs.Facts.{view, is_prepared_view, is_open_view, bound_branches}
 use Rattle.protocol.specs.Managers.{stored_votes, is_new, is_name_spent, is_some_held, plays_at_manager}
-use Rattle.protocol.specs.Facts.{bound_branches}
 use Rattle.protocol.specs.Nodes.{Memory, plays}
 use Rattle.protocol.specs.Worlds.{change_of, view_number}
 use Rattle.resource_manager.specs.Courses.{Stored, stored_in, stored_by, view_among, view_of, is_new_course, course_in}

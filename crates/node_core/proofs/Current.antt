@@ -1,8 +1,7 @@
 -- Frames of both versions, and those that are written today.
 -- Needed by `entry_frames`, `is_current` and `migrate`.
 use Rattle.std.proofs.Common.{◌≡◌, ◌≢◌, ◌∙◌, ℕ, ◌+◌, ◌<◌, ◌≤◌, true, false, ◌==◌, List, [], ◌∷◌, ◌++◌, length, drop, take, get_or, refl}
-use Rattle.std.proofs.Common.{sym, ap, subst}
-use Rattle.std.proofs.Common.{append_assoc, append-nil, length-append, arith, Some, None}
+use Rattle.std.proofs.Common.{sym, ap, subst, append_assoc, append-nil, length-append, arith, Some, None}
 use Rattle.xid.specs.declared.refusals.Refusal.{Refusal}
 use Rattle.std.specs.Prelude.{Result, Ok}
 use Rattle.std.proofs.lemmas.Bool.Decides.{nat_tests}

@@ -1,12 +1,11 @@
 -- What a part decides is what its node does.
 -- Needed by 11 functions of this crate; Playing.
 use Rattle.std.proofs.lemmas.Bool.{cond_both}
-use Rattle.std.proofs.Common.{unwrap_or}
+use Rattle.std.proofs.Common.{unwrap_or, ◌≡◌, ◌∙◌, ℕ, true, false, not, ◌||◌, List, [], ◌∷◌, ◌++◌, Option, Some, None, refl, sym, ap, subst}
 use Rattle.ballot.specs.Ballots.{next_of}
-use Rattle.protocol.specs.Effects.{stores}
+use Rattle.protocol.specs.Effects.{stores, Config, Effect, decision_of, is_inside}
 use Rattle.protocol.specs.declared.decisions.Outgoing.{Outgoing}
-use Rattle.node_core.specs.Roles.{memory_after}
-use Rattle.std.proofs.Common.{◌≡◌, ◌∙◌, ℕ, true, false, not, ◌||◌, List, [], ◌∷◌, ◌++◌, Option, Some, None, refl, sym, ap, subst}
+use Rattle.node_core.specs.Roles.{memory_after, RoleStands, IsLeft, IsDecided, Decides, answering}
 use Rattle.std.specs.Prelude.{IfSome, IfNone, Err, nat_lt, ◌^◌}
 use Rattle.xid.specs.Names.{XidParts}
 use Rattle.xid.specs.Transactions.{TxParts, xid_at}
@@ -25,7 +24,6 @@ use Rattle.protocol.specs.declared.nodes.NodeId.TheVariants.{A, L, R}
 use Rattle.protocol.specs.declared.requests.Action.{Action}
 use Rattle.protocol.specs.declared.requests.Request.{Request}
 use Rattle.protocol.specs.declared.requests.Request.TheVariants as requests
-use Rattle.protocol.specs.Effects.{Config, Effect, decision_of, is_inside}
 use Rattle.protocol.specs.Facts.{slot, last_ballot, with_fact}
 use Rattle.protocol.specs.LeaderMemory.{LeaderMemory, StoredBallots, status_of, with_begun, with_met}
 use Rattle.protocol.specs.Leaders as rules
@@ -42,7 +40,6 @@ use Rattle.resource_manager.specs.Managers as manager_specs
 use Rattle.resource_manager.specs.Managers.{ManagerParts, IsCall}
 use Rattle.resource_manager.proofs.More.{unspent_all}
 use Rattle.node_core.specs.declared.role.Role.{Role}
-use Rattle.node_core.specs.Roles.{RoleStands, IsLeft, IsDecided, Decides, answering}
 
 -- ---- acceptors
 

@@ -16,8 +16,7 @@ use Rattle.protocol.specs.declared.answers.Answer.TheVariants.{Refused}
 use Rattle.protocol.specs.declared.decisions.Decision.{Decision}
 use Rattle.protocol.specs.declared.nodes.NodeId.{NodeId}
 use Rattle.protocol.specs.Effects.{Config, Effect, answer_only, no_effect}
-use Rattle.protocol.specs.Nodes.{Memory, Input, Received, ReceivedNoise, accepts_input, down_answer, effect_of}
-use Rattle.protocol.specs.Nodes.{is_message_inside}
+use Rattle.protocol.specs.Nodes.{Memory, Input, Received, ReceivedNoise, accepts_input, down_answer, effect_of, is_message_inside}
 use Rattle.protocol.specs.Nodes.{on_message}
 use Rattle.node_core.specs.declared.output.Output.{Output}
 use Rattle.node_core.specs.declared.role.Role.{Role}

@@ -1,7 +1,6 @@
 -- A role that is made ready for a fact, and plays it.
 -- Needed by 8 functions of this crate.
-use Rattle.std.proofs.Common.{rules, tests}
-use Rattle.std.proofs.Common.{◌≡◌, ◌∙◌, ℕ, ◌<◌, Bool, true, List, [], ◌∷◌, ◌++◌, refl, sym, ap, subst, arith, inl, inr}
+use Rattle.std.proofs.Common.{rules, tests, ◌≡◌, ◌∙◌, ℕ, ◌<◌, Bool, true, List, [], ◌∷◌, ◌++◌, refl, sym, ap, subst, arith, inl, inr}
 use Rattle.node_core.proofs.Deciding.{no_config}
 use Rattle.std.specs.Prelude.{if◌then◌else◌, Result, Ok, Err, OnOk, IfErr, nat_lt}
 use Rattle.std.proofs.lemmas.Bool.{both_ways, and_parts}

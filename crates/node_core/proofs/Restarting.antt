@@ -27,8 +27,7 @@ use Rattle.branch_table.specs.TableStates.{are_rows}
 use Rattle.node_core.specs.Roles.{RoleStands}
 use Rattle.node_core.specs.Shorter.{shorter_record}
 use Rattle.node_core.specs.Nodes.{Kept, MeansFrom, Holds, begun, AreSizes, HasRows, Keeps, SameState, Stands, NodeParts, NodeStands}
-use Rattle.node_core.specs.Nodes.{IsSound}
-use Rattle.node_core.specs.Nodes.{IsSized, IsAmong}
+use Rattle.node_core.specs.Nodes.{IsSound, IsSized, IsAmong}
 use Rattle.node_core.specs.Opening.{IsLoaded, Loads, cluster_of, IsOpened, IsUnopened, BefallsRestart, Restarts, RestartsAs, frames_of}
 use Rattle.node_core.specs.Configs.{is_among}
 use Rattle.node_core.proofs.Loading.{both_parts, same_holds, holds_again, frames_stored, stayed_whole}

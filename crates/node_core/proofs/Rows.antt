@@ -1,14 +1,13 @@
 -- The rows that stand behind a snapshot.
 -- Needed by `take_rows`, `take_snapshot` and the code of `snapshots`; Loading.
-use Rattle.std.proofs.Common.{◌≡◌, ◌∙◌, ℕ, suc, ◌-◌, Bool, true, false, ◌&&◌, List, [], ◌∷◌, ◌++◌, refl, sym, ap, subst}
-use Rattle.std.proofs.Common.{append_assoc, append-nil, inl, inr}
+use Rattle.std.proofs.Common.{◌≡◌, ◌∙◌, ℕ, suc, ◌-◌, Bool, true, false, ◌&&◌, List, [], ◌∷◌, ◌++◌, refl, sym, ap, subst, append_assoc}
+use Rattle.std.proofs.Common.{append-nil, inl, inr, arith, length-append}
 use Rattle.std.specs.Prelude.{◌⊎◌, map, Option, Some, length, slice_get}
 use Rattle.std.specs.Option.{option_map_or}
 use Rattle.std.specs.List.{list_all}
 use Rattle.std.specs.Cmp.Lexicographic.{slice_cmp}
 use Rattle.std.specs.Ordering.{nat_cmp, is_lt}
 use Rattle.std.proofs.lemmas.Bool.{and_parts, and_from, both_ways}
-use Rattle.std.proofs.Common.{arith, length-append}
 use Rattle.std.proofs.lemmas.List.{map-append}
 use Rattle.std.proofs.lemmas.List.Folds.{list_all-append}
 use Rattle.xid.specs.declared.refusals.Refusal.{Refusal}
@@ -20,8 +19,7 @@ use Rattle.stable_record.proofs.Framed.{framed_same, nothing_stored}
 use Rattle.protocol.specs.declared.rows.Row.{Row}
 use Rattle.resource_manager.specs.Compacted.{row_entry, are_ascending, is_about_tx}
 use Rattle.branch_table.specs.TableStates.{is_row}
-use Rattle.node_core.specs.Opening.{IsReadUpTo, row_of, is_snapshot, may_follow, AreRowsTo, AreAllRows, IsSnapshot}
-use Rattle.node_core.specs.Opening.{TakesNothing}
+use Rattle.node_core.specs.Opening.{IsReadUpTo, row_of, is_snapshot, may_follow, AreRowsTo, AreAllRows, IsSnapshot, TakesNothing}
 use Rattle.node_core.proofs.Reading.{nothing_read, read_more, read_both, damaged_on}
 
 -- ---- one row

@@ -12,8 +12,7 @@ use Rattle.protocol.specs.declared.nodes.NodeId.TheVariants.{A, L, R}
 use Rattle.protocol.specs.declared.rows.Row.{Row}
 use Rattle.protocol.specs.Effects.{Config}
 use Rattle.protocol.specs.Managers.{Branch}
-use Rattle.protocol.specs.Nodes.{NodeState, Memory, Fault, NoFault, NoMemoryBefore, NoMemoryAt, RecordFails, compact_outcome}
-use Rattle.protocol.specs.Nodes.{down_node}
+use Rattle.protocol.specs.Nodes.{NodeState, Memory, Fault, NoFault, NoMemoryBefore, NoMemoryAt, RecordFails, compact_outcome, down_node}
 use Rattle.acceptor.specs.Acceptors.{AcceptorParts}
 use Rattle.acceptor.specs.Compaction as of_acceptor
 use Rattle.leader.specs.Leaders.{LeaderParts}

@@ -1,8 +1,7 @@
 -- A node: which node of the machine it stands for, and what an input makes of both.
 use Rattle.xid.specs.Limits.{most_acceptors}
 use Rattle.std.specs.Prelude.{◌≡◌, ◌<◌, ◌≤◌, ℕ, Bool, true, false, ◌&&◌, if◌then◌else◌, List, [], ◌++◌, map, Option, Some, None, Result, Ok}
-use Rattle.std.specs.Prelude.{Err}
-use Rattle.std.specs.Prelude.{unwrap_or}
+use Rattle.std.specs.Prelude.{Err, unwrap_or}
 use Rattle.std.specs.Option.{option_map_or}
 use Rattle.wire.specs.Decoding.{message_at}
 use Rattle.stable_record.specs.declared.fact.FactKind.{FactKind as Fact}
@@ -15,8 +14,7 @@ use Rattle.protocol.specs.declared.nodes.NodeId.TheVariants.{A, L, R}
 use Rattle.protocol.specs.declared.rows.Row.{Row}
 use Rattle.protocol.specs.Effects.{Config}
 use Rattle.protocol.specs.Nodes.{NodeState, Memory, Input, Asked, Received, ReceivedNoise, Fault, plays, all_play, first_rows}
-use Rattle.protocol.specs.Nodes.{accepts_input, effect_of, node_step, Outcome}
-use Rattle.protocol.specs.Nodes.{NoFault, NoMemoryBefore, NoMemoryAt, RecordFails}
+use Rattle.protocol.specs.Nodes.{accepts_input, effect_of, node_step, Outcome, NoFault, NoMemoryBefore, NoMemoryAt, RecordFails}
 use Rattle.protocol.specs.Worlds.{change_of}
 use Rattle.node_core.specs.declared.config.Sizes.{Sizes}
 use Rattle.node_core.specs.declared.output.Input.{Input as Handed}

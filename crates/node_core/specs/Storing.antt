@@ -1,7 +1,6 @@
 -- How a node carries out what its role decided, and what it leaves of its record.
 use Rattle.std.specs.Prelude.{◌≡◌, ◌⊎◌, ℕ, Bool, true, false, ◌==◌, if◌then◌else◌, List, [], ◌∷◌, ◌++◌, length, Option, Some, None, Result}
-use Rattle.std.specs.Prelude.{Ok}
-use Rattle.std.specs.Prelude.{Err}
+use Rattle.std.specs.Prelude.{Ok, Err}
 use Rattle.xid.specs.declared.refusals.Refusal.TheVariants.{RecordFault, NoMemory}
 use Rattle.wire.specs.Versions.{version_2}
 use Rattle.stable_record.specs.declared.fact.FactKind.{FactKind as Fact}

@@ -13,9 +13,8 @@ ghost use Rattle.node_core.specs.Nodes.{NodeStands, input_of};
 ghost use Rattle.node_core.specs.Opening.{restart_answer};
 ghost use Rattle.node_core.specs.Storing.{output_of};
 ghost use Rattle.floored.specs.Nodes.{FlooredStands, FlooredTables, FlooredViews, IsFlooredOpened, IsFlooredUnopened, are_above};
-ghost use Rattle.port.specs.Members.{CompactsMember, HearsAs, IsMember, Item, RaisesMember, RestartsMember, RisesToLeast};
-ghost use Rattle.port.specs.Members.{Takes, TakesAll, TakesGroup, TakesIf, TakesThose, grouped, item_of, notice_in};
-ghost use Rattle.port.specs.Members.{is_aside as is_item_aside};
+ghost use Rattle.port.specs.Members.{CompactsMember, HearsAs, IsMember, Item, RaisesMember, RestartsMember, RisesToLeast, Takes, TakesAll};
+ghost use Rattle.port.specs.Members.{TakesGroup, TakesIf, TakesThose, grouped, item_of, notice_in, is_aside as is_item_aside};
 
 use floored::{Floored, ToldFloors};
 use node_core::{Config, Input, Output, Sizes};

@@ -1,6 +1,5 @@
 -- Phase 1a is handed to each acceptor of the quorum, for each instance: all of them report.
-use Rattle.std.proofs.Common.{◌≡◌, inl, inr, ◌∙◌, ℕ, ◌<◌, Bool, true, false, not, ◌&&◌, List, ◌++◌}
-use Rattle.std.proofs.Common.{if◌then◌else◌, refl, sym, ap, subst}
+use Rattle.std.proofs.Common.{◌≡◌, inl, inr, ◌∙◌, ℕ, ◌<◌, Bool, true, false, not, ◌&&◌, List, ◌++◌, if◌then◌else◌, refl, sym, ap, subst}
 use Rattle.std.proofs.lemmas.Bool.{and_from, cases_eq, lt-ltb}
 use Rattle.xid.specs.Transactions.{TxParts, participants}
 use Rattle.wire.specs.declared.message.Kind.TheVariants as kinds

@@ -1,6 +1,5 @@
 -- The leader is handed each accept: it has the outcome.
-use Rattle.std.proofs.Common.{◌≡◌, inl, inr, ℕ, Bool, true, List}
-use Rattle.std.proofs.Common.{refl, sym, ap, subst}
+use Rattle.std.proofs.Common.{◌≡◌, inl, inr, ℕ, Bool, true, List, refl, sym, ap, subst}
 use Rattle.std.proofs.lemmas.Bool.{cases_Bool, eq-eqb}
 use Rattle.xid.specs.Transactions.{TxParts}
 use Rattle.xid.specs.declared.transaction.Vote.{Vote}

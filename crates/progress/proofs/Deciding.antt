@@ -20,8 +20,7 @@ use Rattle.protocol.specs.LeaderMemory.{LeaderMemory, StoredBallots, status_of}
 use Rattle.xid.specs.declared.transaction.Vote.TheVariants as votes
 use Rattle.progress.proofs.Telling.{all_decided}
 use Rattle.protocol.specs.Leaders.{is_final}
-use Rattle.protocol.specs.Nodes.{NodeState, NoFault, Asked, node_step, effect_of, effect_outcome, answer_outcome}
-use Rattle.protocol.specs.Nodes.{down_answer}
+use Rattle.protocol.specs.Nodes.{NodeState, NoFault, Asked, node_step, effect_of, effect_outcome, answer_outcome, down_answer}
 use Rattle.protocol.specs.Worlds.{World, outcome_result, if_found}
 use Rattle.progress.specs.Runs.{leader_and_quorum, Leads}
 use Rattle.progress.specs.Outcomes.{status_answer, HasOutcome, HasBallots}

@@ -11,8 +11,7 @@ use Rattle.ballot.proofs.Majorities.{majorities_meet}
 use Rattle.protocol.specs.Basics.{Fact}
 use Rattle.protocol.specs.Vocabulary.{NodeId, A, L, R, Stands as answers}
 use Rattle.safety.specs.Invariant.{Invariant}
-use Rattle.safety.specs.Items.{Vote, Prepared, Aborted, Item, Accepted, Voted, P1b, P2a}
-use Rattle.safety.specs.Items.{Setting, IsDecided, IsReportOfAccept, IsCovered}
+use Rattle.safety.specs.Items.{Vote, Prepared, Aborted, Item, Accepted, Voted, P1b, P2a, Setting, IsDecided, IsReportOfAccept, IsCovered}
 use Rattle.safety.specs.Items as items
 use Rattle.safety.specs.Standing.{Stands, setting, facts_at, facts_of, sent_in, HasVote}
 use Rattle.safety.proofs.Argument.Agreement.{one_proposal, decided_was_proposed, decisions_last, prepared_was_voted, covered_at_most}

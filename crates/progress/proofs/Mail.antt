@@ -5,12 +5,11 @@ use Rattle.std.proofs.lemmas.List.{map-append}
 use Rattle.wire.specs.Messages.{message_tx}
 use Rattle.protocol.specs.Vocabulary.{Outgoing, NodeId}
 use Rattle.protocol.specs.Effects.{Config, receivers}
-use Rattle.protocol.specs.Worlds.{datagrams_of}
+use Rattle.protocol.specs.Worlds.{datagrams_of, Datagram, datagram_at, mark_at}
 use Rattle.protocol.proofs.Lists.{IsIn-join, IsIn-map}
 use Rattle.std.specs.Prelude.{map, slice_get}
 use Rattle.ballot.specs.Greatest.{IsIn}
 use Rattle.wire.specs.declared.message.Kind.{Kind}
-use Rattle.protocol.specs.Worlds.{Datagram, datagram_at, mark_at}
 
 -- a message, and the node that it was sent to
 pub record Letter : Type 0 where

@@ -1,6 +1,5 @@
 -- The leader is handed each report: once a majority has reported an instance, a value of it is in the mail to all acceptors.
-use Rattle.std.proofs.Common.{◌≡◌, inl, inr, ◌∙◌, ℕ, ◌<◌, Bool, true, List, ◌++◌}
-use Rattle.std.proofs.Common.{refl, sym, ap, subst}
+use Rattle.std.proofs.Common.{◌≡◌, inl, inr, ◌∙◌, ℕ, ◌<◌, Bool, true, List, ◌++◌, refl, sym, ap, subst}
 use Rattle.std.proofs.lemmas.Bool.{cases_Bool, eq-eqb}
 use Rattle.xid.specs.Transactions.{TxParts, participants}
 use Rattle.ballot.specs.Greatest.{IsIn}

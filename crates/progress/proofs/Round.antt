@@ -1,6 +1,5 @@
 -- A round: a quiet leader begins a ballot above all that a quiet majority has promised, and has the outcome.
-use Rattle.std.proofs.Common.{◌≡◌, inl, inr, ℕ, ◌<◌, Bool, true, ◌==◌, if◌then◌else◌, List, [], ◌∷◌}
-use Rattle.std.proofs.Common.{refl, sym, subst, arith}
+use Rattle.std.proofs.Common.{◌≡◌, inl, inr, ℕ, ◌<◌, Bool, true, ◌==◌, if◌then◌else◌, List, [], ◌∷◌, refl, sym, subst, arith}
 use Rattle.std.proofs.lemmas.Bool.{cases_eq, both_ways, cond-true, cond-false, eq-eqb, ne_eqb}
 use Rattle.xid.specs.Transactions.{TxParts, participants}
 use Rattle.xid.specs.declared.transaction.Vote.{Vote}

@@ -13,10 +13,9 @@ use Rattle.protocol.specs.Basics.{Fact}
 use Rattle.protocol.specs.Vocabulary.{NodeId, Outgoing, Event, Ask, Deliver, Restart, Request, Timeout, Done, Refused}
 use Rattle.protocol.specs.Effects.{Config, Effect, no_effect}
 use Rattle.protocol.specs.Facts.{with_fact}
-use Rattle.protocol.specs.Nodes.{NodeState, Memory, empty_memory, Input, Asked, Received, NoFault, Outcome}
-use Rattle.protocol.specs.Nodes.{node_step, effect_of, accepts_input}
-use Rattle.protocol.specs.Nodes.{answer_outcome, down_node, effect_outcome, stopped_append, finished_append, restart_outcome, all_play}
-use Rattle.protocol.specs.Nodes.{is_message_inside, on_message}
+use Rattle.protocol.specs.Nodes.{NodeState, Memory, empty_memory, Input, Asked, Received, NoFault, Outcome, node_step, effect_of}
+use Rattle.protocol.specs.Nodes.{accepts_input, answer_outcome, down_node, effect_outcome, stopped_append, finished_append, restart_outcome}
+use Rattle.protocol.specs.Nodes.{all_play, is_message_inside, on_message}
 use Rattle.protocol.proofs.Lists.{IsIn-before}
 use Rattle.protocol.specs.Worlds.{World, Datagram, node_at, outcome_result, at_node, with_mark, mark_at, if_found, world_step}
 use Rattle.safety.specs.Standing.{facts_of}

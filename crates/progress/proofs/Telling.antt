@@ -16,9 +16,8 @@ use Rattle.protocol.specs.declared.states.Status.TheVariants as statuses
 use Rattle.protocol.specs.Vocabulary.{Managers}
 use Rattle.protocol.specs.Effects.{Config, Effect, no_effect, sends_only}
 use Rattle.protocol.specs.Facts.{instance_eq, vote_eq}
-use Rattle.protocol.specs.LeaderMemory.{LeaderMemory, StoredBallots, is_accept_of, ballot_told, is_decided}
-use Rattle.protocol.specs.LeaderMemory.{is_known, with_met, with_all_heard}
-use Rattle.protocol.specs.LeaderMemory.{status_of}
+use Rattle.protocol.specs.LeaderMemory.{LeaderMemory, StoredBallots, is_accept_of, ballot_told, is_decided, is_known, with_met}
+use Rattle.protocol.specs.LeaderMemory.{with_all_heard, status_of}
 use Rattle.protocol.specs.Leaders.{is_final, outcome_messages, on_2b}
 use Rattle.protocol.specs.PaperItems.{accept_messages_of}
 use Rattle.protocol.proofs.Lists.{any_found, found_any, IsIn-map, filter_map_gives}

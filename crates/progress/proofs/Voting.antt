@@ -1,6 +1,5 @@
 -- Each acceptor of the quorum is handed each proposal: all of them accept, and tell the leader.
-use Rattle.std.proofs.Common.{◌≡◌, inl, inr, ◌∙◌, ℕ, ◌<◌, Bool, true, ◌==◌, ◌&&◌, List, ◌++◌}
-use Rattle.std.proofs.Common.{Option, Some, is_some, refl, sym, ap, subst}
+use Rattle.std.proofs.Common.{◌≡◌, inl, inr, ◌∙◌, ℕ, ◌<◌, Bool, true, ◌==◌, ◌&&◌, List, ◌++◌, Option, Some, is_some, refl, sym, ap, subst}
 use Rattle.std.proofs.lemmas.Bool.{and_from, cases_eq, cond-true, cond-false, lt-ltb, eq-eqb, ne_eqb}
 use Rattle.xid.specs.Transactions.{TxParts, participants}
 use Rattle.xid.specs.declared.transaction.Vote.{Vote}

@@ -3,8 +3,7 @@
 use Rattle.std.specs.Prelude.{ℕ, ◌^◌, Bool, true, false, not, ◌&&◌, ◌||◌, ◌==◌, nat_lt, if◌then◌else◌, List, [], ◌∷◌, map, filter_map}
 use Rattle.std.specs.Prelude.{Option, Some, None}
 use Rattle.protocol.specs.Basics.{option_map_or, TxParts, participants, Refusal, Kind, Prepare, P1a, P1b, P2a, P2b, Commit, Abort, B1a, B1b}
-use Rattle.protocol.specs.Basics.{B2b}
-use Rattle.protocol.specs.Basics.{InstanceReport, InstanceAccept, Fact, owner_of, next_of}
+use Rattle.protocol.specs.Basics.{B2b, InstanceReport, InstanceAccept, Fact, owner_of, next_of}
 use Rattle.protocol.specs.Vocabulary.{R, Status, Stands, Refused, Address, Node, Acceptors, Managers, Outgoing}
 use Rattle.protocol.specs.LeaderMemory.{LeaderMemory, StoredBallots, current, is_reported, value_to_propose, is_proposed, status_of}
 use Rattle.protocol.specs.LeaderMemory.{with_met, with_all_heard, with_begun, with_proposed}

@@ -21,8 +21,7 @@ use Rattle.protocol.specs.Branches.{BranchView, no_branch, hinders, call_answer,
 use Rattle.protocol.specs.Effects.{Config}
 use Rattle.protocol.specs.Facts.{Bound, bound_branches}
 use Rattle.protocol.specs.Holds.{AreNamedOnce}
-use Rattle.protocol.specs.Managers.{Branch, view_by, view_named, is_hindered, branch_after, branches_without, after_call}
-use Rattle.protocol.specs.Managers.{named_answer}
+use Rattle.protocol.specs.Managers.{Branch, view_by, view_named, is_hindered, branch_after, branches_without, after_call, named_answer}
 use Rattle.protocol.specs.Nodes.{first_rows}
 use Rattle.protocol.specs.Tables.{table}
 use Rattle.protocol.proofs.DoneCalls.{IsReadyFor, ready}

@@ -13,11 +13,10 @@ use Rattle.stable_record.specs.declared.fact.FactKind.{FactKind as Fact}
 use Rattle.stable_record.specs.declared.fact.Touched.{Touched}
 use Rattle.stable_record.specs.Facts.{fact_tx}
 use Rattle.protocol.specs.Effects.{Config}
-use Rattle.protocol.specs.Facts.{Bound, is_prepared_view, is_open_view, is_spent, view}
+use Rattle.protocol.specs.Facts.{Bound, is_prepared_view, is_open_view, is_spent, view, HasVote}
 use Rattle.protocol.specs.Holds.{AreApart, AreNamedOnce}
 use Rattle.protocol.specs.Managers.{Branch, stored_votes, plays_at_manager, branches_without}
 use Rattle.protocol.specs.Nodes.{first_rows}
-use Rattle.protocol.specs.Facts.{HasVote}
 use Rattle.protocol.specs.Tables.{keys_voted, commit_of, table, with_writes}
 use Rattle.protocol.proofs.Lists.{IsIn-push}
 use Rattle.protocol.proofs.Manager.Apart.{bound_stored, stored_bound, gone, without_name, without_some}

@@ -1,8 +1,7 @@
 -- The entries that a resource manager writes, one by one.
 -- Needed by `ResourceManager::frames`, `ResourceManager::prepared` and `write_one`; Alike, Floors and Shortened.
 use Rattle.std.proofs.Common.{◌≡◌, ◌∙◌, ℕ, zero, suc, ◌<◌, true, ◌&&◌, nat_lt, nat_le, List, [], ◌∷◌, ◌++◌, Option, Some, None, refl, sym}
-use Rattle.std.proofs.Common.{ap}
-use Rattle.std.proofs.Common.{◌+◌, length, get_or, take, append_assoc, arith}
+use Rattle.std.proofs.Common.{ap, ◌+◌, length, get_or, take, append_assoc, arith}
 use Rattle.std.specs.Prelude.{filter_map, slice_get}
 use Rattle.std.specs.List.{cons_option}
 use Rattle.std.proofs.lemmas.Bool.{and_parts, leb-true, ltb-true}

@@ -1,7 +1,6 @@
 -- What a resource manager writes, frame by frame.
 -- Needed by `ResourceManager::frames`, `ResourceManager::shorter`, `ResourceManager::write_entry` and `write_one`.
-use Rattle.std.proofs.Common.{◌≡◌, ◌∙◌, ℕ, List, [], ◌∷◌, ◌++◌, Option, Some, sym, ap, subst}
-use Rattle.std.proofs.Common.{map, append-nil}
+use Rattle.std.proofs.Common.{◌≡◌, ◌∙◌, ℕ, List, [], ◌∷◌, ◌++◌, Option, Some, sym, ap, subst, map, append-nil}
 use Rattle.std.specs.Prelude.{IfOk, OnOk, Result, Ok, Err}
 use Rattle.std.specs.List.{cons_option}
 use Rattle.xid.specs.declared.refusals.Refusal.{Refusal}

@@ -15,10 +15,9 @@ use Rattle.ballot.specs.Greatest.{IsIn}
 use Rattle.stable_record.specs.declared.fact.FactKind.{FactKind as Fact}
 use Rattle.stable_record.specs.declared.fact.Touched.{Touched}
 use Rattle.stable_record.specs.Facts.{fact_tx}
-use Rattle.protocol.specs.Facts.{is_vote_of, is_commit_of, is_abort_of, is_spent, Bound, branch_bound_by}
+use Rattle.protocol.specs.Facts.{is_vote_of, is_commit_of, is_abort_of, is_spent, Bound, branch_bound_by, HasVote}
 use Rattle.protocol.specs.Managers.{Branch, branches_without}
 use Rattle.protocol.specs.declared.rows.Row.{Row}
-use Rattle.protocol.specs.Facts.{HasVote}
 use Rattle.protocol.specs.Tables.{put_row, with_writes, keys_voted, commit_of, table}
 use Rattle.protocol.proofs.Lists.{found_any, any_find, filter_map_gives, filter_map_given}
 use Rattle.resource_manager.specs.declared.course.Course.{Course}

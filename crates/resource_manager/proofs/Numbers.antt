@@ -1,8 +1,7 @@
 -- How far transactions have come, by number: after one more is seen, and after one has come further.
 -- Needed by `Courses::see` and `Courses::set`.
 use Rattle.std.proofs.Common.{◌≡◌, ◌∙◌, ℕ, zero, suc, ◌+◌, ◌<◌, true, nat_lt, cond, List, [], ◌∷◌, ◌++◌, length, get_or, set, refl, sym, ap}
-use Rattle.std.proofs.Common.{subst}
-use Rattle.std.proofs.Common.{Option, Some, arith}
+use Rattle.std.proofs.Common.{subst, Option, Some, arith}
 use Rattle.std.specs.Prelude.{filter_map, slice_get}
 use Rattle.std.specs.List.{cons_option}
 use Rattle.std.proofs.lemmas.Bool.{and_from, and_parts, lt-ltb, ltb-true}

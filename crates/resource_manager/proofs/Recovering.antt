@@ -27,8 +27,7 @@ use Rattle.protocol.specs.Facts.{Bound, bound_branches, branch_bound_by, is_prep
 use Rattle.protocol.specs.Holds.{AreDistinct, names_of}
 use Rattle.protocol.specs.Managers.{Branch, insert_xid, on_recover, stored_votes}
 use Rattle.protocol.proofs.Lists.{IsIn-map, IsIn-mapped, Contains-among, IsIn-contains, all_each, filter_kept, filter_keeps}
-use Rattle.protocol.proofs.Lists.{filter_map_given}
-use Rattle.protocol.proofs.Lists.{filter_map_gives}
+use Rattle.protocol.proofs.Lists.{filter_map_given, filter_map_gives}
 use Rattle.protocol.proofs.Manager.Apart.{named_so}
 use Rattle.protocol.proofs.Manager.Names.{distinct_filtered, named_once_filtered}
 use Rattle.protocol.proofs.Manager.Prepared.{names_held_once, prepared_or_not, votes_named}

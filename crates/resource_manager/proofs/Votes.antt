@@ -15,12 +15,10 @@ use Rattle.stable_record.specs.declared.fact.Touched.{Touched}
 use Rattle.protocol.specs.declared.states.BranchState.TheVariants as states
 use Rattle.protocol.specs.Branches.{BranchView, no_branch, is_write, hinders_use}
 use Rattle.protocol.specs.Effects.{Config}
-use Rattle.protocol.specs.Facts.{Bound, bound_branches, is_prepared_view, is_spent, is_vote_of, is_commit_of, view}
+use Rattle.protocol.specs.Facts.{Bound, bound_branches, is_prepared_view, is_spent, is_vote_of, is_commit_of, view, HasVote}
 use Rattle.protocol.specs.Holds.{AreApart, AreNamedOnce, AreDisjoint}
-use Rattle.protocol.specs.Managers.{Branch, stored_votes, plays_at_manager, is_new, is_some_held, branches_without}
-use Rattle.protocol.specs.Managers.{idle_keys, view_by}
+use Rattle.protocol.specs.Managers.{Branch, stored_votes, plays_at_manager, is_new, is_some_held, branches_without, idle_keys, view_by}
 use Rattle.protocol.specs.Nodes.{first_rows}
-use Rattle.protocol.specs.Facts.{HasVote}
 use Rattle.protocol.specs.Tables.{keys_voted, commit_of, table, with_writes}
 use Rattle.protocol.proofs.Lists.{any_found, found_any, IsIn-last, Contains-among, IsIn-contains}
 use Rattle.protocol.proofs.Manager.Apart.{named_so, bound_stored, stored_bound, bound_named, without_some, gone, voted_apart}
@@ -39,8 +37,7 @@ use Rattle.resource_manager.specs.Managers.{ManagerParts, StandsFor, HasBranch, 
 use Rattle.resource_manager.specs.Playing.{Becomes, IsThere}
 use Rattle.resource_manager.proofs.Named.{named_at, named_in, idle_named, named_idle}
 use Rattle.resource_manager.proofs.More.{voted_then, table_more}
-use Rattle.resource_manager.proofs.Standing.{bound_in, other_in, stands_then}
-use Rattle.resource_manager.proofs.Standing.{then_once}
+use Rattle.resource_manager.proofs.Standing.{bound_in, other_in, stands_then, then_once}
 
 -- ---- conditions, by the course of a transaction
 

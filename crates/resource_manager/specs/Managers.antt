@@ -13,12 +13,11 @@ use Rattle.protocol.specs.declared.requests.Action.{Action}
 use Rattle.protocol.specs.declared.states.BranchState.{BranchState}
 use Rattle.protocol.specs.declared.states.View.{View}
 use Rattle.protocol.specs.Effects.{Config, Effect, decision_of, view_standing}
-use Rattle.protocol.specs.Facts.{is_spent, bound_branches}
+use Rattle.protocol.specs.Facts.{is_spent, bound_branches, with_fact}
 use Rattle.protocol.specs.Holds.{AreApart}
 use Rattle.protocol.specs.Managers.{Branch, StoredVotes, stored_votes, all_branches, idle_keys, on_call, plays_at_manager}
 use Rattle.protocol.specs.Nodes.{all_play, first_rows}
 use Rattle.stable_record.specs.Parts.{Part}
-use Rattle.protocol.specs.Facts.{with_fact}
 use Rattle.protocol.specs.Tables.{table}
 use Rattle.branch_table.specs.TableStates.{TableState, branch_named}
 use Rattle.resource_manager.specs.Courses.{CoursesParts, IsSeen, course_in, stored_in, stored_by, begun_in}

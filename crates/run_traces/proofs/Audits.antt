@@ -1,7 +1,6 @@
 -- An auditor of the text of a run finds nothing.
 use Rattle.std.proofs.Common.{◌≡◌, ◌∙◌, ℕ, suc, Bool, true, false, if◌then◌else◌, List, [], ◌∷◌, map, Option, Some, None, refl, sym, ap}
-use Rattle.std.proofs.Common.{subst}
-use Rattle.std.proofs.Common.{reverse, arith}
+use Rattle.std.proofs.Common.{subst, reverse, arith}
 use Rattle.std.proofs.Math.Path.{fun_ext}
 use Rattle.std.specs.Prelude.{◌==◌, ◌≢◌, fold}
 use Rattle.std.specs.List.{All, AllByRecursion, AllPairs, range_with_len}

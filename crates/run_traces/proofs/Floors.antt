@@ -20,10 +20,9 @@ use Rattle.safety.proofs.WellFormed.Runs.{well_reached_after}
 use Rattle.floors.specs.Nodes.{Rise, forgotten_answer, is_free_below, is_unread, kept_rise, may_replace, not_put_in, on_least, on_raise}
 use Rattle.floors.specs.Nodes.{risen}
 use Rattle.floors.specs.Worlds as floored
-use Rattle.floors.specs.Worlds.{FlooredResult, FlooredWorld, Machine, Notice, floored_answer, floored_if_found, floored_step}
-use Rattle.floors.specs.Worlds.{hear_at, hear_result, is_manager, least_told, machine_part, raise_result}
-use Rattle.floors.specs.Worlds.{replace_result, step_with_floors, told_with, with_entry, with_floors, with_rise}
-use Rattle.floors.specs.Worlds.{with_told_lost}
+use Rattle.floors.specs.Worlds.{FlooredResult, FlooredWorld, Machine, Notice, floored_answer, floored_if_found, floored_step, hear_at}
+use Rattle.floors.specs.Worlds.{hear_result, is_manager, least_told, machine_part, raise_result, replace_result, step_with_floors}
+use Rattle.floors.specs.Worlds.{told_with, with_entry, with_floors, with_rise, with_told_lost}
 use Rattle.floors.specs.Runs.{does_raise, does_rise, events_in_machine, floored_opening, is_lost, is_put_in, passes_over, receiver_of}
 use Rattle.floors.specs.Runs.{with_fault}
 use Rattle.floors.proofs.Rising.{entry_by}

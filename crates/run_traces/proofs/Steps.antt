@@ -27,8 +27,7 @@ use Rattle.protocol.specs.Nodes.{Outcome, accepts_input, all_play, compact_outco
 use Rattle.protocol.specs.Nodes.{is_message_inside, node_step, restart_outcome}
 use Rattle.protocol.specs.Tables.{table}
 use Rattle.protocol.specs.Worlds.{World, Datagram, StepResult, node_at, set_node, answer_result, datagrams_of, view_number, change_of}
-use Rattle.protocol.specs.Worlds.{outcome_result, if_found, at_node, datagram_at, with_mark, dispatch, world_step}
-use Rattle.protocol.specs.Worlds.{numbered, step_of}
+use Rattle.protocol.specs.Worlds.{outcome_result, if_found, at_node, datagram_at, with_mark, dispatch, world_step, numbered, step_of}
 use Rattle.protocol.proofs.Lists.{IsIn-after, IsIn-joined, IsIn-mapped, all_in, any_found, only_one}
 use Rattle.safety.specs.Forms as forms
 use Rattle.safety.proofs.WellFormed.Runs.{IsWellWorld}

@@ -1,7 +1,6 @@
 -- What holds of all that stands, at each moment of a run.
 use Rattle.std.specs.Prelude.{◌≡◌, ℕ, ◌<◌, IsTrue, Option}
-use Rattle.safety.specs.Items.{Vote, Prepared, Item, Promised, Accepted, Began, Voted}
-use Rattle.safety.specs.Items.{Committed, StoredAbort, P1b, P2a, P2b, Commit, Abort}
+use Rattle.safety.specs.Items.{Vote, Prepared, Item, Promised, Accepted, Began, Voted, Committed, StoredAbort, P1b, P2a, P2b, Commit, Abort}
 use Rattle.safety.specs.Items.{Setting, IsDecided, IsMajorityPick, IsReportOfAccept, IsCovered, IsSomeAborted}
 
 -- what holds of all that stands: each item had what allows it, and votes, proposals and outcomes are one each

@@ -1,8 +1,7 @@
 -- A floor's frame is taken again, what is taken was spelled, and no entry's frame is one.
 -- Needed by 7 functions of this crate; Known; crates floored, cluster and floored_groups.
-use Rattle.std.proofs.Common.{◌≡◌, ◌∙◌, ℕ, zero, suc, ◌+◌, ◌<◌, ◌==◌, true, eqb-true, List, [], ◌∷◌, ◌++◌}
-use Rattle.std.proofs.Common.{length, take}
-use Rattle.std.proofs.Common.{Option, Some, None, inl, refl, sym, ap, subst, append_assoc, arith}
+use Rattle.std.proofs.Common.{◌≡◌, ◌∙◌, ℕ, zero, suc, ◌+◌, ◌<◌, ◌==◌, true, eqb-true, List, [], ◌∷◌, ◌++◌, length, take, Option, Some, None}
+use Rattle.std.proofs.Common.{inl, refl, sym, ap, subst, append_assoc, arith}
 use Rattle.std.specs.List.{slice_index_or}
 use Rattle.std.specs.Option.{option_map}
 use Rattle.std.proofs.lemmas.List.{length-append, take_at}

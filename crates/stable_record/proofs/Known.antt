@@ -13,9 +13,8 @@ use Rattle.stable_record.specs.declared.entry.EntryKind.{EntryKind as Entry}
 use Rattle.stable_record.specs.Grammar.{IsStored}
 use Rattle.stable_record.specs.Held.{Held, Nature, HasPut, HasFailed, with_bytes}
 use Rattle.stable_record.specs.Floors.{floor_frame, floor_of, front_of}
-use Rattle.stable_record.specs.Behind.{BeginsWith, HasFailedToRise, HasLearned, IsFloor, IsFronted, IsFronting}
-use Rattle.stable_record.specs.Behind.{behind, floor_now, standing_behind}
-use Rattle.stable_record.specs.Behind.{BehindParts, whole_bytes}
+use Rattle.stable_record.specs.Behind.{BeginsWith, HasFailedToRise, HasLearned, IsFloor, IsFronted, IsFronting, behind, floor_now}
+use Rattle.stable_record.specs.Behind.{standing_behind, BehindParts, whole_bytes}
 use Rattle.stable_record.proofs.Floors.{begins_with, floor_again, floor_stays}
 use Rattle.stable_record.proofs.Fronts.{cut_begins, cut_behind, nature_behind, put_begins, rest_is}
 

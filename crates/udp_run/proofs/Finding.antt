@@ -15,9 +15,8 @@ use Rattle.protocol.specs.declared.nodes.NodeId.{NodeId}
 use Rattle.protocol.specs.declared.nodes.NodeId.TheVariants.{A, L, R}
 use Rattle.protocol.specs.Effects.{Config}
 use Rattle.node_core.specs.declared.config.Sizes.{Sizes}
-use Rattle.node_core.specs.Configs.{are_sizes, is_config}
+use Rattle.node_core.specs.Configs.{are_sizes, is_config, config_by}
 use Rattle.node_core.specs.Nodes.{AreSizes}
-use Rattle.node_core.specs.Configs.{config_by}
 use Rattle.node_core.specs.Places.{node_count}
 use Rattle.node_core.proofs.Placed.{place_within, placed_at}
 use Rattle.node_core.proofs.Sizing.{odd_few}

@@ -19,8 +19,7 @@ use Rattle.port.specs.Members.{MemberParts}
 use Rattle.node_core.specs.Opening.{restart_answer}
 use Rattle.port.specs.Calls.{Sending}
 use Rattle.port.specs.declared.calling.Served.{Served}
-use Rattle.udp_run.specs.Sites.{place_in, site_of, Making, ReachesAt, Handling, HandlesIn, SendsNoise, IsSentBy}
-use Rattle.udp_run.specs.Sites.{answer_served, is_forged}
+use Rattle.udp_run.specs.Sites.{place_in, site_of, Making, ReachesAt, Handling, HandlesIn, SendsNoise, IsSentBy, answer_served, is_forged}
 
 -- a place that a cluster has is one of so many
 pub place_fits : {X : Type 0} (sizes : Sizes) (xs : List X) (who : NodeId) (at : ℕ) → length xs ≡ node_count sizes

@@ -1,7 +1,6 @@
 -- Tables of nodes, one after another.
 use Rattle.std.proofs.Common.{◌≡◌, ◌∙◌, ◌⊎◌, inl, inr, ℕ, ◌+◌, ◌<◌, ◌≤◌, Bool, true, false, List, [], ◌∷◌, ◌++◌, length, get_or, set, take}
-use Rattle.std.proofs.Common.{drop, refl, sym}
-use Rattle.std.proofs.Common.{ap, subst, Result, Err, arith}
+use Rattle.std.proofs.Common.{drop, refl, sym, ap, subst, Result, Err, arith}
 use Rattle.std.specs.Prelude.{cond}
 use Rattle.std.specs.List.{AllZip, filter}
 use Rattle.std.proofs.lemmas.List.{append-nil, take_more, take_all, drop_more, get_or-drop, drop-set-lt, length-set}

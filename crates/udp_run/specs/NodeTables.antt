@@ -1,6 +1,5 @@
 -- What the tables of resource managers hold.
-use Rattle.std.specs.Prelude.{◌≡◌, ◌⊎◌, ℕ, ◌<◌, true, false, List, [], ◌∷◌, ◌++◌, length, take, slice_index_or, Option, Some, None}
-use Rattle.std.specs.Prelude.{Ok, Err}
+use Rattle.std.specs.Prelude.{◌≡◌, ◌⊎◌, ℕ, ◌<◌, true, false, List, [], ◌∷◌, ◌++◌, length, take, slice_index_or, Option, Some, None, Ok, Err}
 use Rattle.std.specs.List.{AllZip, filter}
 use Rattle.xid.specs.declared.refusals.Refusal.TheVariants.{RecordFault}
 use Rattle.stable_record.specs.Held.{Held}

@@ -1,8 +1,7 @@
 -- The bundles that bytes spell, by what was passed over.
 -- Needed by `b1b_of` and `b2b_of`; crate stable_record.
-use Rattle.std.proofs.Common.{◌≡◌, ◌==◌, ℕ, zero, suc, ◌<◌, ◌^◌, Bool, true, false}
-use Rattle.std.proofs.Common.{cond, ltb, List, [], ◌∷◌, length, map, Option, Some, None, IsTrue}
-use Rattle.std.proofs.Common.{refl, sym, ap, subst, ◌∙◌, arith}
+use Rattle.std.proofs.Common.{◌≡◌, ◌==◌, ℕ, zero, suc, ◌<◌, ◌^◌, Bool, true, false, cond, ltb, List, [], ◌∷◌, length, map, Option, Some}
+use Rattle.std.proofs.Common.{None, IsTrue, refl, sym, ap, subst, ◌∙◌, arith}
 use Rattle.std.specs.Prelude.{Result, Ok, Err}
 use Rattle.std.specs.List.{AllByRecursion}
 use Rattle.std.proofs.lemmas.Bool.{false≢true}
@@ -25,8 +24,7 @@ use Rattle.wire.specs.Reading.{list_at, items_at, report_item_at, accept_item_at
 use Rattle.wire.specs.Decoding.{is_report, is_message, decoded}
 use Rattle.wire.proofs.DecodingLemmas.{report_decides, message_decides}
 use Rattle.wire.proofs.Decoded.{accepted}
-use Rattle.wire.proofs.Spelled.{some_same, step, unless, rm_spelled}
-use Rattle.wire.proofs.Spelled.{byte_spelled, accept_item_spelled}
+use Rattle.wire.proofs.Spelled.{some_same, step, unless, rm_spelled, byte_spelled, accept_item_spelled}
 use Rattle.wire.specs.SpelledItems.{reports_spelled, accepts_spelled, are_items, is_item, is_reported, is_accepted}
 use Rattle.wire.proofs.CountedItems.{both, are, are_again}
 

@@ -20,8 +20,7 @@ use Rattle.wire.specs.Reading.{number_at, rm_at, component_at, byte_at, branch_a
 use Rattle.wire.specs.Decoding.{tx_in}
 use Rattle.wire.proofs.Ascending.{IsFrom, from_zero, from_next, ascend_with, tail_up}
 use Rattle.wire.proofs.Fields.{wide_2, in_version_2, branch_again, number_again, component_again}
-use Rattle.wire.proofs.Spelled.{some_same, step, unless}
-use Rattle.wire.proofs.Spelled.{byte_spelled, number_spelled, component_spelled, branch_spelled}
+use Rattle.wire.proofs.Spelled.{some_same, step, unless, byte_spelled, number_spelled, component_spelled, branch_spelled}
 use Rattle.wire.proofs.Spelled as spelled
 use Rattle.wire.proofs.TakenTx.{in_spelled, in_again}
 use Rattle.wire.specs.Spelled.{manager_at, after_branches, after_tx}

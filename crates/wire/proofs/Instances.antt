@@ -1,7 +1,6 @@
 -- The number of an instance is a resource manager's, and a bundle has no more items than there may be branches.
 -- Needed by `take_passed`; Fields; crates stable_record, leader, cluster and net_script.
-use Rattle.std.proofs.Common.{◌≡◌, ℕ, suc, ◌<◌, ◌≤◌, ◌||◌, Bool, true, false, eqb, List, [], ◌∷◌, length, refl, sym, subst, arith}
-use Rattle.std.proofs.Common.{eqb-true}
+use Rattle.std.proofs.Common.{◌≡◌, ℕ, suc, ◌<◌, ◌≤◌, ◌||◌, Bool, true, false, eqb, List, [], ◌∷◌, length, refl, sym, subst, arith, eqb-true}
 use Rattle.std.specs.List.{All, AllByRecursion, list_any}
 use Rattle.std.specs.List.Sorted.{IsStrictlyIncreasing}
 use Rattle.xid.specs.Limits.{most_managers, most_branches}

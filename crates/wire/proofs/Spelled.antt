@@ -21,8 +21,7 @@ use Rattle.wire.specs.declared.grammar.VersionNumber.TheVariants.{First, Second}
 use Rattle.wire.specs.Grammar.{number_spelling, rm_spelling, component_spelling, branch_spelling, branches_spelling, tx_spelling, vote_byte}
 use Rattle.wire.specs.Grammar.{report_spelling, report_item_spelling, accept_item_spelling}
 use Rattle.wire.specs.Reading.{◌>>=◌, byte_at, big_at, number_at, rm_at, component_at, branch_at, branches_at, tx_at, vote_at, report_at}
-use Rattle.wire.specs.Reading.{instance_at}
-use Rattle.wire.specs.Reading.{report_item_at, accept_item_at, list_at, items_at}
+use Rattle.wire.specs.Reading.{instance_at, report_item_at, accept_item_at, list_at, items_at}
 
 -- bytes are these in front and those after them, which are bytes
 pub record Front (bytes front rest : List ℕ) : Type 0 where

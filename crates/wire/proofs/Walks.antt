@@ -1,8 +1,7 @@
 -- Walking over the branches on their bytes.
 -- Needed by 7 functions of this crate.
-use Rattle.std.proofs.Common.{◌≡◌, ◌≢◌, eqb, ℕ, zero, suc, ◌+◌, ◌-◌, ◌<◌, ◌≤◌, Bool}
-use Rattle.std.proofs.Common.{true, false, ltb, List, [], ◌∷◌, ◌++◌, length, take, drop, get_or}
-use Rattle.std.proofs.Common.{Option, Some, None, IsTrue, refl, sym, ap, ◌∙◌, arith, slice_index, slice_set}
+use Rattle.std.proofs.Common.{◌≡◌, ◌≢◌, eqb, ℕ, zero, suc, ◌+◌, ◌-◌, ◌<◌, ◌≤◌, Bool, true, false, ltb, List, [], ◌∷◌, ◌++◌, length, take}
+use Rattle.std.proofs.Common.{drop, get_or, Option, Some, None, IsTrue, refl, sym, ap, ◌∙◌, arith, slice_index, slice_set}
 use Rattle.std.specs.Prelude.{is_some, nat_lt, not, ◌||◌, ◌&&◌, cond}
 use Rattle.std.specs.List.{flat_map, All, list_all, list_any, position_or_len, find, slice_get}
 use Rattle.std.specs.List.Sorted.{IsStrictlyIncreasing}

@@ -1,6 +1,5 @@
 -- The items of a bundle, seen over the bytes that spell them, and how their bytes are passed over.
-use Rattle.std.specs.Prelude.{ℕ, zero, suc, ◌==◌, ◌+◌, Bool, true, false, ◌&&◌}
-use Rattle.std.specs.Prelude.{cond, nat_lt, nat_le, List, [], ◌∷◌, Option, Some, None}
+use Rattle.std.specs.Prelude.{ℕ, zero, suc, ◌==◌, ◌+◌, Bool, true, false, ◌&&◌, cond, nat_lt, nat_le, List, [], ◌∷◌, Option, Some, None}
 use Rattle.std.specs.Option.{option_map_or}
 use Rattle.xid.specs.Limits.{most_branches}
 use Rattle.xid.specs.Transactions.{TxParts, is_participant}

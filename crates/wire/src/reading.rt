@@ -4,8 +4,7 @@ ghost use Rattle.wire.specs.Versions.{version_1, version_2, version_of};
 ghost use Rattle.wire.specs.Decoding.{tx_in, are_managers};
 ghost use Rattle.wire.specs.Names.{name_at, taken_name};
 ghost use Rattle.wire.specs.Reading.{taken, taken_bytes, taken_branch, taken_branches, taken_tx, byte_at, number_at, rm_at, component_at};
-ghost use Rattle.wire.specs.Reading.{branch_at, branches_at, tx_at, vote_at, report_at, instance_at};
-ghost use Rattle.wire.specs.Reading.{list_at, with_first, items_at, end_at};
+ghost use Rattle.wire.specs.Reading.{branch_at, branches_at, tx_at, vote_at, report_at, instance_at, list_at, with_first, items_at, end_at};
 
 use crate::grammar::{RM_BYTES, VersionNumber};
 use crate::item::Item;

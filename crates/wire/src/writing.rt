@@ -3,9 +3,8 @@ ghost use Rattle.std.specs.List.{flat_map};
 ghost use Rattle.xid.specs.Transactions.{nth_branch};
 ghost use Rattle.wire.specs.Messages.{IsMessage};
 ghost use Rattle.wire.specs.Versions.{version_2};
-ghost use Rattle.wire.specs.Grammar.{number_spelling, rm_spelling, component_spelling, branch_spelling, branches_spelling};
-ghost use Rattle.wire.specs.Grammar.{tx_spelling, vote_byte, report_spelling, kind_byte};
-ghost use Rattle.wire.specs.Grammar.{rest_spelling, spelling};
+ghost use Rattle.wire.specs.Grammar.{number_spelling, rm_spelling, component_spelling, branch_spelling, branches_spelling, tx_spelling};
+ghost use Rattle.wire.specs.Grammar.{vote_byte, report_spelling, kind_byte, rest_spelling, spelling};
 
 use crate::grammar::{
     ITEM_BYTES, MAX_BRANCH_BYTES, MAX_BRANCHES_BYTES, MAX_COMPONENT_BYTES, MAX_DATAGRAM,

@@ -1,8 +1,7 @@
 -- A leader needs nothing in its memory of transactions below its floor.
 -- Needed by crates floors, leader and resource_manager.
 use Rattle.std.proofs.Common.{◌≡◌, ◌∙◌, inl, inr, ℕ, ◌^◌, Bool, true, false, not, ◌&&◌, ◌||◌, ◌==◌, if◌then◌else◌, List, [], ◌∷◌, ◌++◌}
-use Rattle.std.proofs.Common.{Option}
-use Rattle.std.proofs.Common.{Some, None, refl, sym, ap, subst, nat_lt, unwrap_or}
+use Rattle.std.proofs.Common.{Option, Some, None, refl, sym, ap, subst, nat_lt, unwrap_or}
 use Rattle.ballot.specs.Greatest.{IsIn}
 use Rattle.protocol.specs.Vocabulary.{R, Node, Acceptors, Managers, Refused, Stands}
 use Rattle.protocol.proofs.Lists.{IsIn-mapped, filter_map_given}

@@ -1,8 +1,7 @@
 -- Branches stay apart, and the fact of each rule of a resource manager plays.
 -- Needed by DoneCalls, Kept.Facts and Manager.Prepared; crates safety, resource_manager, history, forgetting, cluster and run_traces.
-use Rattle.std.proofs.Common.{◌≡◌, ◌≢◌, ◌⊎◌, ℕ, Bool, true, false, not, ◌&&◌, if◌then◌else◌, List, [], ◌∷◌, ◌++◌, map, Option, Some}
-use Rattle.std.proofs.Common.{None, is_some, is_none, unwrap_or}
-use Rattle.std.proofs.Common.{inl, inr, refl, sym, ap, ◌∙◌, subst}
+use Rattle.std.proofs.Common.{◌≡◌, ◌≢◌, ◌⊎◌, ℕ, Bool, true, false, not, ◌&&◌, if◌then◌else◌, List, [], ◌∷◌, ◌++◌, map, Option, Some, None}
+use Rattle.std.proofs.Common.{is_some, is_none, unwrap_or, inl, inr, refl, sym, ap, ◌∙◌, subst}
 use Rattle.std.specs.Prelude.{IfSome, find, filter_map, option_map}
 use Rattle.std.specs.List.{list_any}
 use Rattle.std.proofs.lemmas.List.{map-append}
@@ -20,36 +19,28 @@ use Rattle.stable_record.specs.Facts.{AreAscending, fact_tx}
 use Rattle.stable_record.specs.declared.fact.FactKind.TheVariants as stored
 use Rattle.protocol.specs.Vocabulary.{BranchState, R, Action, Start, Put, Del, Get, End, EndFail, Rollback, Code, Refused, Row, Call}
 use Rattle.protocol.specs.Vocabulary.{Timeout}
-use Rattle.protocol.specs.Managers.{stored_votes}
+use Rattle.protocol.specs.Managers.{stored_votes, Branch, has_key, act_on, all_branches, view_by, view_named, is_hindered, branch_after}
+use Rattle.protocol.specs.Managers.{branches_without, after_call, named_answer, on_call, idle_keys, first_vote, on_prepare, on_commit}
+use Rattle.protocol.specs.Managers.{on_abort, on_manager_message, on_manager_timeout, plays_at_manager, is_new, is_name_spent, is_some_held}
 use Rattle.protocol.specs.declared.states.BranchState.TheVariants as states
 use Rattle.protocol.specs.Branches.{BranchView, is_write, hinders_use, hinders, is_done, key_of, by_state}
 use Rattle.protocol.specs.Effects.{Config, Effect, is_inside}
 use Rattle.protocol.specs.Facts.{vote_in, is_ended, is_spent, is_prepared_view, is_open_view, view, Bound, branch_bound_by, bound_branches}
-use Rattle.protocol.specs.Managers.{Branch, has_key, act_on, all_branches, view_by, view_named, is_hindered, branch_after}
-use Rattle.protocol.specs.Managers.{branches_without, after_call}
-use Rattle.protocol.specs.Managers.{named_answer, on_call, idle_keys, first_vote, on_prepare, on_commit, on_abort, on_manager_message}
-use Rattle.protocol.specs.Managers.{on_manager_timeout}
-use Rattle.protocol.specs.Nodes.{Memory, Input, Asked, Received, effect_of}
-use Rattle.protocol.specs.Nodes.{is_message_inside, first_rows}
-use Rattle.protocol.specs.Nodes.{plays, all_play}
-use Rattle.protocol.specs.Managers.{plays_at_manager, is_new, is_name_spent, is_some_held}
+use Rattle.protocol.specs.Nodes.{Memory, Input, Asked, Received, effect_of, is_message_inside, first_rows, plays, all_play}
 use Rattle.protocol.specs.Tables.{table}
 use Rattle.xid.proofs.Deciding.{xid_decides}
 use Rattle.protocol.proofs.TouchedKeys.{changed_ascends}
 use Rattle.ballot.specs.Greatest.{IsIn}
 use Rattle.protocol.specs.Facts.{with_fact}
-use Rattle.protocol.proofs.Lists.{any_found, none_found, IsIn-before, IsIn-after, IsIn-push, IsIn-mapped, filter_map_given}
-use Rattle.protocol.proofs.Lists.{filter_kept, filter_keeps, found_among}
-use Rattle.protocol.proofs.Lists.{filter_map_gives}
+use Rattle.protocol.proofs.Lists.{any_found, none_found, IsIn-before, IsIn-after, IsIn-push, IsIn-mapped, filter_map_given, filter_kept}
+use Rattle.protocol.proofs.Lists.{filter_keeps, found_among, filter_map_gives}
 use Rattle.protocol.proofs.Manager.Views.{prepared_shows, prepared_before}
-use Rattle.protocol.specs.Holds.{AreApart, AreDistinct, AreNamedOnce, names_of}
+use Rattle.protocol.specs.Holds.{AreApart, AreDistinct, AreNamedOnce, names_of, OwnsWrites, AreDisjoint}
 use Rattle.protocol.proofs.Manager.Names.{distinct_push, named_once_filtered}
 use Rattle.protocol.proofs.Manager.Played.{voted_named}
 use Rattle.protocol.proofs.Manager.Effects.{IsManagerFact, name_names, manager_effect_is}
-use Rattle.protocol.proofs.Manager.Keys.{names_name, spent_by, still_unspent}
-use Rattle.protocol.specs.Holds.{OwnsWrites, AreDisjoint}
-use Rattle.protocol.proofs.Manager.Keys.{changed_name, changed_keys, written_by, written_key, changed_writes}
-use Rattle.protocol.proofs.Manager.Keys.{writer_hinders, holder_hinders, disjoint_to}
+use Rattle.protocol.proofs.Manager.Keys.{names_name, spent_by, still_unspent, changed_name, changed_keys, written_by, written_key}
+use Rattle.protocol.proofs.Manager.Keys.{changed_writes, writer_hinders, holder_hinders, disjoint_to}
 
 -- as after a restart
 pub none_apart : (rm : ℕ) (facts : List Fact) → AreApart rm facts []

@@ -14,15 +14,12 @@ use Rattle.wire.specs.Messages.{message_tx}
 use Rattle.protocol.specs.Basics.{Fact, Touched}
 use Rattle.stable_record.specs.declared.fact.FactKind.TheVariants as stored
 use Rattle.protocol.specs.Vocabulary.{R, Outgoing, Leaders, Timeout}
-use Rattle.protocol.specs.Managers.{stored_votes}
-use Rattle.protocol.specs.Facts.{vote_in, is_ended, is_spent, view, is_prepared_view, is_open_view}
+use Rattle.protocol.specs.Managers.{stored_votes, Branch, idle_keys, vote_sent, first_vote, on_prepare, on_commit, on_abort}
+use Rattle.protocol.specs.Managers.{on_manager_message, on_manager_timeout}
+use Rattle.protocol.specs.Facts.{vote_in, is_ended, is_spent, view, is_prepared_view, is_open_view, with_fact}
 use Rattle.protocol.specs.Effects.{Config, Effect, to, is_inside}
-use Rattle.protocol.specs.Managers.{Branch, idle_keys, vote_sent, first_vote, on_prepare, on_commit, on_abort, on_manager_message}
-use Rattle.protocol.specs.Managers.{on_manager_timeout}
-use Rattle.protocol.specs.Nodes.{Memory, Input, Asked, Received, effect_of}
-use Rattle.protocol.specs.Nodes.{is_message_inside}
+use Rattle.protocol.specs.Nodes.{Memory, Input, Asked, Received, effect_of, is_message_inside}
 use Rattle.ballot.specs.Greatest.{IsIn}
-use Rattle.protocol.specs.Facts.{with_fact}
 use Rattle.protocol.proofs.Lists.{IsIn-append, find_any}
 use Rattle.protocol.proofs.Manager.Views.{unvoted, vote_in_after_prepared, vote_in_after_aborted}
 

@@ -1,7 +1,6 @@
 -- Names that stand once in a list: kept by what makes the list shorter, and by one more that is new.
 -- Needed by Manager.Apart and Manager.Prepared; crate resource_manager.
-use Rattle.std.proofs.Common.{inl, inr, Bool, List, [], ◌∷◌, ◌++◌, Option, Some, None, filter, filter_map, refl, sym}
-use Rattle.std.proofs.Common.{subst}
+use Rattle.std.proofs.Common.{inl, inr, Bool, List, [], ◌∷◌, ◌++◌, Option, Some, None, filter, filter_map, refl, sym, subst}
 use Rattle.std.specs.List.{cons_option}
 use Rattle.std.proofs.lemmas.Bool.{cond_both}
 use Rattle.xid.specs.Names.{XidParts}

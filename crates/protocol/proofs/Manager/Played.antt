@@ -8,13 +8,11 @@ use Rattle.xid.specs.declared.transaction.Vote.TheVariants as votes
 use Rattle.protocol.specs.Basics.{Fact}
 use Rattle.stable_record.specs.declared.fact.FactKind.TheVariants as stored
 use Rattle.protocol.specs.Vocabulary.{NodeId, R}
-use Rattle.protocol.specs.Managers.{stored_votes}
-use Rattle.protocol.specs.Facts.{bound_branches}
+use Rattle.protocol.specs.Managers.{stored_votes, is_new, is_name_spent, is_some_held}
+use Rattle.protocol.specs.Facts.{bound_branches, HasVote}
 use Rattle.protocol.specs.Effects.{Config}
 use Rattle.protocol.specs.Nodes.{plays, all_play}
-use Rattle.protocol.specs.Managers.{is_new, is_name_spent, is_some_held}
 use Rattle.ballot.specs.Greatest.{IsIn}
-use Rattle.protocol.specs.Facts.{HasVote}
 
 -- a fact played after some facts
 pub record IsPlayedFact (config : Config) (who : NodeId) (fact : Fact) : Type 0 where

@@ -17,19 +17,16 @@ use Rattle.protocol.specs.Vocabulary.{R}
 use Rattle.protocol.specs.Managers.{stored_votes}
 use Rattle.protocol.specs.declared.states.BranchState.TheVariants as states
 use Rattle.protocol.specs.Effects.{Config}
-use Rattle.protocol.specs.Facts.{vote_in, is_ended, is_spent, is_prepared_view, view, Bound, branch_bound_by, bound_branches}
+use Rattle.protocol.specs.Facts.{vote_in, is_ended, is_spent, is_prepared_view, view, Bound, branch_bound_by, bound_branches, HasVote}
 use Rattle.protocol.specs.Branches.{is_write, hinders_use}
 use Rattle.protocol.specs.Managers.{Branch, has_key, act_on, view_by, all_branches, plays_at_manager, is_new, is_name_spent, is_some_held}
 use Rattle.protocol.specs.Nodes.{plays, all_play}
 use Rattle.ballot.specs.Greatest.{IsIn}
-use Rattle.protocol.specs.Facts.{HasVote}
 use Rattle.protocol.proofs.Lists.{found_any, IsIn-append, IsIn-push, IsIn-mapped, filter_map_given}
-use Rattle.protocol.specs.Holds.{AreDistinct, AreNamedOnce, names_of}
+use Rattle.protocol.specs.Holds.{AreDistinct, AreNamedOnce, names_of, OwnsWrites, AreDisjoint, AreApart}
 use Rattle.protocol.proofs.Manager.Names.{distinct_push, distinct_append, distinct_filtered}
 use Rattle.protocol.proofs.Manager.Views.{prepared_before, unvoted}
-use Rattle.protocol.specs.Holds.{OwnsWrites, AreDisjoint}
 use Rattle.protocol.proofs.Manager.Keys.{disjoint_from, spent_by}
-use Rattle.protocol.specs.Holds.{AreApart}
 use Rattle.protocol.proofs.Manager.Apart.{bound_is, bound_stored, stored_bound, named_so}
 
 -- of prepared branches no key that one has written is in another

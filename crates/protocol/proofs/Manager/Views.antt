@@ -12,11 +12,9 @@ use Rattle.protocol.specs.Basics.{Fact, Touched}
 use Rattle.stable_record.specs.declared.fact.FactKind.TheVariants as stored
 use Rattle.protocol.specs.declared.states.View.TheVariants as views
 use Rattle.protocol.specs.Vocabulary.{View}
-use Rattle.protocol.specs.Facts.{is_vote_of, vote_in, is_commit_of, is_abort_of, is_ended, view, is_prepared_view}
+use Rattle.protocol.specs.Facts.{is_vote_of, vote_in, is_commit_of, is_abort_of, is_ended, view, is_prepared_view, IsViewOf, HasVote}
 use Rattle.xid.proofs.Deciding.{tx_self, tx_decides}
-use Rattle.protocol.specs.Facts.{IsViewOf}
 use Rattle.ballot.specs.Greatest.{IsIn}
-use Rattle.protocol.specs.Facts.{HasVote}
 use Rattle.protocol.proofs.Lists.{any_found, found_any, IsIn-before, IsIn-push, IsIn-last}
 
 -- ---- votes

@@ -3,8 +3,7 @@
 use Rattle.std.proofs.Common.{◌≡◌, ◌⊎◌, ℕ, zero, suc, List, [], ◌∷◌, Some, None, inl, inr, refl, subst, ap, arith}
 use Rattle.std.specs.Prelude.{Contains}
 pub use Rattle.protocol.proofs.Lists.{Contains-head, Contains-one, Contains-cases, Contains-tail}
-use Rattle.safety.specs.Items.{Item, Promised, Accepted, Began, Voted, Committed, StoredAbort, P1b, P2a, P2b, Commit, Abort}
-use Rattle.safety.specs.Items.{Setting}
+use Rattle.safety.specs.Items.{Item, Promised, Accepted, Began, Voted, Committed, StoredAbort, P1b, P2a, P2b, Commit, Abort, Setting}
 use Rattle.safety.specs.Items.{IsAllowed, IsGrown, IsView, IsState, manager_of}
 use Rattle.safety.specs.CommitSteps.{View, working, prepared, committed, aborted, IsCommitStep}
 use Rattle.safety.specs.Invariant.{Invariant}

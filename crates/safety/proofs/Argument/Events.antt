@@ -3,8 +3,7 @@
 use Rattle.std.proofs.Common.{◌≡◌, ◌⊎◌, ℕ, List, ◌++◌, None, inl, inr, refl, subst}
 use Rattle.std.specs.Prelude.{Contains}
 use Rattle.std.proofs.lemmas.List.Elements.{Contains-append_cases, Contains-append_left, Contains-append_right}
-use Rattle.safety.specs.Items.{Vote, Item, P1b, P2a, P2b, Commit, Abort}
-use Rattle.safety.specs.Items.{Setting, IsAllowed, IsState, manager_of}
+use Rattle.safety.specs.Items.{Vote, Item, P1b, P2a, P2b, Commit, Abort, Setting, IsAllowed, IsState, manager_of}
 use Rattle.safety.specs.CommitSteps.{View, IsCommitStep}
 use Rattle.safety.specs.Invariant.{Invariant}
 use Rattle.safety.proofs.Argument.Additions.{AreAllowed, IsGrownBy, ChangeNoViewAfterFirst, KeepsAllowed}

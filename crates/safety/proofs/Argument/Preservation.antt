@@ -1,9 +1,8 @@
 -- The invariant holds before anything stands, and each allowed addition keeps it.
 -- Needed by Argument.Additions, Argument.Views, Leader.Allowed and World.Events; crates progress, answers and commits.
 use Rattle.std.proofs.Common.{◌≡◌, ◌⊎◌, ℕ, zero, suc, ◌<◌, Option, Some, None, inl, inr, ⊎_elim, sym, subst, arith}
-use Rattle.safety.specs.Items.{Vote, Item, Accepted, Voted, P1b, P2a}
-use Rattle.safety.specs.Items.{Setting, IsDecided, IsMajorityPick, IsReportOfAccept, IsCovered, IsProposal, IsSomeAborted}
-use Rattle.safety.specs.Items.{IsAllowed, IsAllowedIfAny, IsGrown}
+use Rattle.safety.specs.Items.{Vote, Item, Accepted, Voted, P1b, P2a, Setting, IsDecided, IsMajorityPick, IsReportOfAccept, IsCovered}
+use Rattle.safety.specs.Items.{IsProposal, IsSomeAborted, IsAllowed, IsAllowedIfAny, IsGrown}
 use Rattle.safety.specs.Invariant.{Invariant}
 
 -- before anything stands

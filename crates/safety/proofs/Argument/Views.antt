@@ -1,11 +1,8 @@
 -- The views of a transaction's participants: consistent, and moved by the steps of the paper's machine.
 -- Needed by Argument.Additions and World.Reachable; crate progress.
-use Rattle.std.proofs.Common.{◌≡◌, ◌≢◌, ◌⊎◌, ℕ, Bool, true, false, IsTrue, Option}
-use Rattle.std.proofs.Common.{Some, None, inl, inr, refl, sym, subst, ap}
-use Rattle.safety.specs.Items.{Prepared, Aborted, Item, Committed, Commit}
-use Rattle.safety.specs.Items.{Setting, IsAllowedIfAny, IsGrown, IsView, IsState, manager_of}
-use Rattle.safety.specs.CommitSteps.{View, working, prepared, committed, aborted, IsReady}
-use Rattle.safety.specs.CommitSteps.{IsCommitMove, IsCommitStep, IsConsistent}
+use Rattle.std.proofs.Common.{◌≡◌, ◌≢◌, ◌⊎◌, ℕ, Bool, true, false, IsTrue, Option, Some, None, inl, inr, refl, sym, subst, ap}
+use Rattle.safety.specs.Items.{Prepared, Aborted, Item, Committed, Commit, Setting, IsAllowedIfAny, IsGrown, IsView, IsState, manager_of}
+use Rattle.safety.specs.CommitSteps.{View, working, prepared, committed, aborted, IsReady, IsCommitMove, IsCommitStep, IsConsistent}
 use Rattle.safety.specs.Invariant.{Invariant}
 use Rattle.safety.proofs.Argument.Preservation.{invariant_kept, allowed_as}
 use Rattle.safety.proofs.Argument.Agreement.{commit_finds_prepared, one_outcome}

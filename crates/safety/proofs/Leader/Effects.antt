@@ -19,16 +19,13 @@ use Rattle.protocol.specs.Basics.{Fact}
 use Rattle.protocol.specs.declared.states.Status.TheVariants as statuses
 use Rattle.protocol.specs.Vocabulary.{L, R, Status, Stands, Refused, Outgoing, Address, Node, Acceptors, Managers, Request, Timeout, Ask}
 use Rattle.protocol.specs.Facts.{last_ballot}
-use Rattle.protocol.specs.Effects.{status_standing, Config, Effect, to, is_inside, answer_only}
-use Rattle.protocol.specs.Effects.{no_effect, sends_only, stores}
+use Rattle.protocol.specs.Effects.{status_standing, Config, Effect, to, is_inside, answer_only, no_effect, sends_only, stores}
 use Rattle.protocol.specs.LeaderMemory.{LeaderMemory, current, is_reported, value_to_propose, is_proposed, status_of}
 use Rattle.protocol.specs.LeaderMemory.{Begun, with_met, with_all_heard, with_begun}
-use Rattle.protocol.specs.Leaders.{outcome_messages, is_final, on_commit_call, on_leader_timeout, on_status_call, is_current}
-use Rattle.protocol.specs.Leaders.{phase_1a, proposal_of, after_reports, on_1b}
+use Rattle.protocol.specs.Leaders.{outcome_messages, is_final, on_commit_call, on_leader_timeout, on_status_call, is_current, phase_1a}
+use Rattle.protocol.specs.Leaders.{proposal_of, after_reports, on_1b, on_2b, on_ask, on_leader_message}
 use Rattle.protocol.specs.PaperItems.{report_messages, accept_messages_of, unbundled}
-use Rattle.protocol.specs.Leaders.{on_2b, on_ask, on_leader_message}
-use Rattle.protocol.specs.Nodes.{Memory, Input, Asked, Received, of_leader}
-use Rattle.protocol.specs.Nodes.{effect_of, is_acceptor_inside, is_form_of, is_message_inside}
+use Rattle.protocol.specs.Nodes.{Memory, Input, Asked, Received, of_leader, effect_of, is_acceptor_inside, is_form_of, is_message_inside}
 use Rattle.ballot.specs.Greatest.{IsIn}
 use Rattle.safety.proofs.Facts.{participates}
 use Rattle.protocol.proofs.Lists.{IsIn-mapped, filter_map_given, only_one}

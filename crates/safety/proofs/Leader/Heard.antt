@@ -4,8 +4,7 @@ use Rattle.std.proofs.Common.{◌≡◌, ◌⊎◌, inl, inr, ℕ, ◌<◌, ◌�
 use Rattle.std.proofs.Common.{◌∷◌, Option, Some, None, is_some, filter_map, refl, sym, ap, ◌∙◌, subst}
 use Rattle.std.specs.List.{list_any, list_all, cons_option}
 use Rattle.std.proofs.lemmas.Bool.{both_ways, and_from, and_parts, and_cases, or_cases, or_parts, eq-eqb, eqb-true, ltb-true, cond_both}
-use Rattle.std.proofs.lemmas.Bool.{not-false}
-use Rattle.std.proofs.lemmas.Bool.{cond-true}
+use Rattle.std.proofs.lemmas.Bool.{not-false, cond-true}
 use Rattle.xid.specs.Transactions.{TxParts, participants, is_participant}
 use Rattle.xid.specs.declared.transaction.Vote.{Vote}
 use Rattle.xid.specs.declared.transaction.Vote.TheVariants.{Prepared, Aborted}
@@ -16,8 +15,7 @@ use Rattle.protocol.specs.Vocabulary.{Status}
 use Rattle.protocol.specs.Facts.{instance_eq, vote_eq}
 use Rattle.protocol.specs.declared.states.Status.TheVariants as statuses
 use Rattle.protocol.specs.LeaderMemory.{LeaderMemory, StoredBallots, message_report, is_report_of, has_reported, is_reported}
-use Rattle.protocol.specs.LeaderMemory.{value_to_propose}
-use Rattle.protocol.specs.LeaderMemory.{is_accept_of, ballot_told, is_decided, is_known, status_of}
+use Rattle.protocol.specs.LeaderMemory.{value_to_propose, is_accept_of, ballot_told, is_decided, is_known, status_of}
 use Rattle.protocol.proofs.Same.{instance_eq-is, instance_eq-same}
 use Rattle.ballot.proofs.Picks.{below_top, some_in, top_in, says_top, says_each}
 use Rattle.safety.specs.Items.{IsMajorityPick, IsDecided, IsBallotAtMost}

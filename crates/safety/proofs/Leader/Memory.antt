@@ -1,13 +1,12 @@
 -- A leader's invariant is kept: by what it hears, proposes and begins, and while others send.
 -- Needed by Leader.Effects; crates progress and forgetting.
 use Rattle.std.proofs.Common.{◌≡◌, ◌⊎◌, inl, inr, ℕ, ◌<◌, ◌≤◌, max, Bool, true, false, not, ◌&&◌, ◌==◌, if◌then◌else◌, List, [], ◌∷◌, ◌++◌}
-use Rattle.std.proofs.Common.{Option, Some}
-use Rattle.std.proofs.Common.{None, filter, filter_map, find, option_map, refl, sym, ap, ◌∙◌, subst, arith}
+use Rattle.std.proofs.Common.{Option, Some, None, filter, filter_map, find, option_map, refl, sym, ap, ◌∙◌, subst, arith}
 use Rattle.std.specs.List.{list_any, cons_option}
 use Rattle.std.proofs.lemmas.Bool.{both_ways, and_from, and_parts, or_cases, or_right, or_left, eq-eqb, cases_Bool, cond_both, cond-true}
 use Rattle.std.proofs.lemmas.Bool.{cond-false}
 use Rattle.std.proofs.lemmas.List.Elements.{filter_map-append}
-use Rattle.xid.specs.Transactions.{TxParts}
+use Rattle.xid.specs.Transactions.{TxParts, tx_eq}
 use Rattle.xid.specs.declared.transaction.Vote.{Vote}
 use Rattle.wire.specs.declared.message.Kind.{Kind}
 use Rattle.wire.specs.declared.message.Kind.TheVariants.{P1b, P2a}
@@ -15,7 +14,6 @@ use Rattle.wire.specs.Messages.{message_tx}
 use Rattle.ballot.specs.Ballots.{IsOwned}
 use Rattle.ballot.specs.Choice.{Report}
 use Rattle.stable_record.specs.declared.fact.FactKind.TheVariants as stored
-use Rattle.xid.specs.Transactions.{tx_eq}
 use Rattle.ballot.specs.Greatest.{greatest, IsIn}
 use Rattle.protocol.specs.Basics.{Fact}
 use Rattle.protocol.specs.Facts.{instance_eq, ballot_begun, last_ballot}

@@ -28,8 +28,7 @@ use Rattle.safety.proofs.World.Growth.{items_of}
 use Rattle.safety.proofs.World.AllowedEffects.{NamesParticipant, IsAllowedEffect}
 use Rattle.protocol.proofs.Manager.Views.{vote_in_stands, unvoted, unended, prepared_shows}
 use Rattle.protocol.proofs.Manager.Played.{voted_named}
-use Rattle.protocol.proofs.Manager.Effects.{MayVoteFirst, IsManagerFact, IsManagerSend, IsManagerRule, name_names}
-use Rattle.protocol.proofs.Manager.Effects.{manager_effect_is}
+use Rattle.protocol.proofs.Manager.Effects.{MayVoteFirst, IsManagerFact, IsManagerSend, IsManagerRule, name_names, manager_effect_is}
 
 -- ---- as items
 

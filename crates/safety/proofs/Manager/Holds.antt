@@ -9,11 +9,10 @@ use Rattle.protocol.specs.Effects.{Config}
 use Rattle.protocol.specs.Managers.{Branch, all_branches}
 use Rattle.protocol.specs.Nodes.{NodeState, all_play}
 use Rattle.protocol.specs.Worlds.{World, node_at}
-use Rattle.protocol.specs.Holds.{AreHeldOnce, AreNamedOnce, AreInOrder}
+use Rattle.protocol.specs.Holds.{AreHeldOnce, AreNamedOnce, AreInOrder, AreApart}
 use Rattle.safety.specs.Runs.{IsReachable}
 use Rattle.safety.specs.Standing.{facts_of}
 use Rattle.protocol.proofs.Lists.{IsIn-contains, all_each}
-use Rattle.protocol.specs.Holds.{AreApart}
 use Rattle.protocol.proofs.Manager.Prepared as holds
 use Rattle.safety.proofs.World.Events.{safe_ever}
 

@@ -17,7 +17,7 @@ use Rattle.stable_record.specs.Facts.{IsKey, IsValue, IsAct, IsTouched, AreKeys,
 use Rattle.protocol.specs.Basics.{Fact, Act, Touched}
 use Rattle.protocol.specs.Vocabulary.{BranchState, Action, Start, Put, Del, Get, End, EndFail, Rollback, Answer, Code, Refused, Row}
 use Rattle.safety.specs.Forms.{IsAction}
-use Rattle.protocol.specs.Holds.{AreNamedOnce, names_of}
+use Rattle.protocol.specs.Holds.{AreNamedOnce, names_of, AreApart}
 use Rattle.protocol.specs.declared.states.BranchState.TheVariants as states
 use Rattle.protocol.specs.Branches.{BranchView, key_fits, value_fits, by_state, hinders, is_done}
 use Rattle.protocol.specs.Managers.{Branch, last_act, with_touched, has_key, all_branches, view_by, view_named, is_hindered, branch_after}
@@ -26,7 +26,6 @@ use Rattle.protocol.specs.Facts.{is_spent, bound_branches}
 use Rattle.protocol.proofs.TouchedKeys.{counts_touched, changed_ascends}
 use Rattle.ballot.specs.Greatest.{IsIn}
 use Rattle.protocol.proofs.Lists.{IsIn-map, IsIn-mapped, IsIn-push}
-use Rattle.protocol.specs.Holds.{AreApart}
 use Rattle.protocol.proofs.Manager.Apart.{without_some}
 use Rattle.protocol.proofs.Manager.Prepared.{prepared_or_not}
 

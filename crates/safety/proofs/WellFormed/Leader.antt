@@ -1,7 +1,6 @@
 -- What a leader stores and sends is well-formed: all of it is of the transaction, the ballot and the instances of its input.
 -- Needed by WellFormed.Nodes.
-use Rattle.std.proofs.Common.{◌≡◌, ℕ, ◌^◌, not, ◌&&◌, ◌||◌, List, [], ◌∷◌, Option, Some, None, unwrap_or, ap}
-use Rattle.std.proofs.Common.{subst, arith, nat_lt}
+use Rattle.std.proofs.Common.{◌≡◌, ℕ, ◌^◌, not, ◌&&◌, ◌||◌, List, [], ◌∷◌, Option, Some, None, unwrap_or, ap, subst, arith, nat_lt}
 use Rattle.std.specs.Prelude.{filter_map, map}
 use Rattle.std.proofs.lemmas.Bool.{cond_both, ltb-true}
 use Rattle.xid.specs.Transactions.{TxParts, IsTx, participants}
@@ -21,8 +20,7 @@ use Rattle.protocol.specs.PaperItems.{report_messages}
 use Rattle.protocol.specs.Leaders.{outcome_messages, is_final, on_commit_call, phase_1a, on_leader_timeout, on_status_call}
 use Rattle.protocol.specs.Leaders.{is_current, proposal_of, on_1b, on_2b, on_leader_message}
 use Rattle.protocol.proofs.Lists.{filter_map_given, only_one, all_mapped}
-use Rattle.safety.proofs.WellFormed.Effects.{AreSends, IsSend, IsWellFormed, well_answered, well_sent}
-use Rattle.safety.proofs.WellFormed.Effects.{instance_of, instance_among}
+use Rattle.safety.proofs.WellFormed.Effects.{AreSends, IsSend, IsWellFormed, well_answered, well_sent, instance_of, instance_among}
 
 -- an outcome is a message of its transaction
 outcomes_are : (status : Status) (tx : TxParts) (address : Address) → IsTx tx → AreSends (outcome_messages status tx address)

@@ -15,9 +15,8 @@ use Rattle.protocol.specs.Vocabulary.{R}
 use Rattle.safety.specs.Standing.{HasVote}
 use Rattle.protocol.specs.Facts.{vote_in, is_ended, is_spent, view, is_prepared_view, is_open_view}
 use Rattle.protocol.specs.Effects.{Config, Effect, no_effect, is_inside}
-use Rattle.protocol.specs.Managers.{stored_votes}
-use Rattle.protocol.specs.Managers.{Branch, idle_keys, vote_sent, first_vote, on_prepare, on_commit, on_abort, on_manager_message}
-use Rattle.protocol.specs.Managers.{on_manager_timeout, branches_without}
+use Rattle.protocol.specs.Managers.{stored_votes, Branch, idle_keys, vote_sent, first_vote, on_prepare, on_commit, on_abort}
+use Rattle.protocol.specs.Managers.{on_manager_message, on_manager_timeout, branches_without}
 use Rattle.protocol.specs.Nodes.{all_play}
 use Rattle.protocol.proofs.Lists.{all_joined}
 use Rattle.protocol.proofs.Manager.Apart.{without_some, idle_branch}

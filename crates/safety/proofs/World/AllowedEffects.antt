@@ -1,7 +1,6 @@
 -- What a rule of a node hands over, and that it makes an event.
 -- Needed by Acceptor.Effects, Leader.Allowed, Manager.Allowed, World.NodeRules, World.Outcomes and World.SafeSteps.
-use Rattle.std.proofs.Common.{◌≡◌, ℕ, IsTrue, List, [], Option, Some, None, refl}
-use Rattle.std.proofs.Common.{subst, arith}
+use Rattle.std.proofs.Common.{◌≡◌, ℕ, IsTrue, List, [], Option, Some, None, refl, subst, arith}
 use Rattle.std.specs.Prelude.{Contains, ◌∷◌, map}
 use Rattle.std.specs.List.{flat_map}
 use Rattle.xid.specs.Transactions.{TxParts, participants, is_participant}

@@ -24,15 +24,13 @@ use Rattle.protocol.specs.Effects.{Config}
 use Rattle.protocol.specs.Nodes.{NodeState, Input, Asked, Received, ReceivedNoise, Fault, RecordFails, NoMemoryBefore, NoMemoryAt, Outcome}
 use Rattle.protocol.specs.Nodes.{effect_of, node_step, restart_outcome, compact_outcome, all_play}
 use Rattle.protocol.specs.Worlds.{World, StepResult, view_number, change_of, node_at, set_node, datagram_at, answer_result, outcome_result}
-use Rattle.protocol.specs.Worlds.{if_found}
-use Rattle.protocol.specs.Worlds.{at_node, dispatch, world_step}
+use Rattle.protocol.specs.Worlds.{if_found, at_node, dispatch, world_step, with_mark}
 use Rattle.protocol.proofs.Kept.Facts.{other_vote, other_commit, other_abort}
 use Rattle.safety.specs.Changes.{SaysItsChange}
 use Rattle.safety.specs.Standing.{facts_of, facts_at}
 use Rattle.safety.proofs.World.Growth.{same_node}
 use Rattle.safety.proofs.World.NodePlaces.{node_there, node_elsewhere}
 use Rattle.safety.proofs.World.Outcomes.{step_is}
-use Rattle.protocol.specs.Worlds.{with_mark}
 
 -- ---- one more fact
 

@@ -14,16 +14,11 @@ use Rattle.protocol.specs.Vocabulary.{NodeId, L, R, Outgoing, Done, Refused, Eve
 use Rattle.protocol.specs.Effects.{Config}
 use Rattle.wire.specs.Decoding.{spells_message}
 use Rattle.wire.specs.Grammar.{spelling}
-use Rattle.protocol.specs.Nodes.{NodeState, Input, Asked, Received, ReceivedNoise}
-use Rattle.protocol.specs.Nodes.{Fault, RecordFails, NoMemoryBefore, NoMemoryAt, Outcome, node_step}
-use Rattle.protocol.specs.Nodes.{restart_outcome, compact_outcome}
-use Rattle.protocol.specs.Nodes.{all_play}
+use Rattle.protocol.specs.Nodes.{NodeState, Input, Asked, Received, ReceivedNoise, Fault, RecordFails, NoMemoryBefore, NoMemoryAt, Outcome}
+use Rattle.protocol.specs.Nodes.{node_step, restart_outcome, compact_outcome, all_play}
 use Rattle.protocol.specs.PaperItems.{unbundled}
-use Rattle.protocol.specs.Worlds.{World, Datagram, opening, if_found}
-use Rattle.protocol.specs.Worlds.{StepResult, Occurrence, if_found, node_at, set_node, answer_result}
-use Rattle.protocol.specs.Worlds.{outcome_result}
-use Rattle.protocol.specs.Worlds.{at_node, datagram_at, mark_at, with_mark, cut_result}
-use Rattle.protocol.specs.Worlds.{dispatch, world_step, world_after}
+use Rattle.protocol.specs.Worlds.{World, Datagram, opening, if_found, StepResult, Occurrence, if_found, node_at, set_node, answer_result}
+use Rattle.protocol.specs.Worlds.{outcome_result, at_node, datagram_at, mark_at, with_mark, cut_result, dispatch, world_step, world_after}
 use Rattle.xid.specs.declared.transaction.Vote.TheVariants as votes
 use Rattle.safety.specs.Items.{Item, Promised, Accepted, Began, Voted, Committed, StoredAbort, P1b, P2a, P2b, Commit, Abort}
 use Rattle.safety.specs.Invariant.{Invariant}

@@ -6,8 +6,7 @@ use Rattle.wire.specs.declared.message.Kind.{Kind}
 use Rattle.protocol.specs.Basics.{Fact}
 use Rattle.protocol.specs.Vocabulary.{NodeId, A, L, R, Answer}
 use Rattle.protocol.specs.Effects.{Config, Effect, answer_only}
-use Rattle.protocol.specs.Nodes.{Memory, NodeState, Input, Received}
-use Rattle.protocol.specs.Nodes.{effect_of, on_message, is_message_inside}
+use Rattle.protocol.specs.Nodes.{Memory, NodeState, Input, Received, effect_of, on_message, is_message_inside}
 use Rattle.protocol.specs.Acceptors.{plays_at_acceptor}
 use Rattle.protocol.specs.Facts.{slot}
 use Rattle.protocol.specs.PaperItems.{unbundled}

@@ -12,9 +12,8 @@ use Rattle.protocol.specs.Basics.{Fact}
 use Rattle.protocol.specs.Vocabulary.{NodeId, L, R, Outgoing, Answer}
 use Rattle.protocol.specs.Effects.{Config, Effect, receivers}
 use Rattle.stable_record.specs.Frames.{frame_length}
-use Rattle.protocol.specs.Nodes.{Memory, empty_memory, NodeState, Input, Fault, RecordFails, NoMemoryAt, Outcome}
-use Rattle.protocol.specs.Nodes.{accepts_input}
-use Rattle.protocol.specs.Nodes.{effect_of, answer_outcome, stopped_append, finished_append, effect_outcome, down_answer, node_step, plays}
+use Rattle.protocol.specs.Nodes.{Memory, empty_memory, NodeState, Input, Fault, RecordFails, NoMemoryAt, Outcome, accepts_input, effect_of}
+use Rattle.protocol.specs.Nodes.{answer_outcome, stopped_append, finished_append, effect_outcome, down_answer, node_step, plays}
 use Rattle.protocol.specs.PaperItems.{unbundled}
 use Rattle.protocol.specs.Worlds.{World, Datagram, node_at, datagrams_of, outcome_result}
 use Rattle.safety.specs.Senders.{IsFrom, AreFrom}

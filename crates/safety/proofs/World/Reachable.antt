@@ -1,7 +1,6 @@
 -- What holds in every world that the cluster can come to.
 -- Needed by 12 functions of this crate; 9 crates above.
-use Rattle.std.proofs.Common.{◌≡◌, ◌≢◌, inl, inr, ◌∙◌, ℕ, ◌≤◌, Bool, true, IsTrue, if◌then◌else◌, []}
-use Rattle.std.proofs.Common.{Option, Some, None, sym, ap, subst}
+use Rattle.std.proofs.Common.{◌≡◌, ◌≢◌, inl, inr, ◌∙◌, ℕ, ◌≤◌, Bool, true, IsTrue, if◌then◌else◌, [], Option, Some, None, sym, ap, subst}
 use Rattle.std.proofs.lemmas.Bool.{cases_eq}
 use Rattle.xid.specs.Transactions.{TxParts, is_participant}
 use Rattle.xid.specs.declared.transaction.Vote.{Vote}
@@ -11,8 +10,7 @@ use Rattle.protocol.specs.declared.states.View.TheVariants as views
 use Rattle.protocol.specs.Vocabulary.{NodeId, A, L, View, Done, Refused, Event, Restart}
 use Rattle.protocol.specs.Effects.{Config}
 use Rattle.protocol.specs.Nodes.{NodeState, Fault, NoFault, RecordFails, NoMemoryBefore, NoMemoryAt, empty_memory, answer_outcome}
-use Rattle.protocol.specs.Nodes.{down_node}
-use Rattle.protocol.specs.Nodes.{restart_outcome, all_play}
+use Rattle.protocol.specs.Nodes.{down_node, restart_outcome, all_play}
 use Rattle.protocol.specs.TCommit.{IsReady, IsCommitMove, IsCommitStep}
 use Rattle.safety.specs.CommitSteps.{IsConsistent}
 use Rattle.protocol.specs.Worlds.{World, StepResult, node_at, world_step, outcome_result, answer_result}

@@ -1,6 +1,5 @@
 use Rattle.std.proofs.Common.{◌≡◌, ◌∙◌, ◌==◌, ◌&&◌, cond, Some, rules, ap}
-use Rattle.std.specs.Option.{option_map}
-use Rattle.std.specs.Option.{option_copied}
+use Rattle.std.specs.Option.{option_map, option_copied}
 use Rattle.xid.specs.Names.{xid_eq}
 use Rattle.audit.specs.Books.{stretch_of, Sets}
 use Rattle.audit.specs.Stretches.{with_get}

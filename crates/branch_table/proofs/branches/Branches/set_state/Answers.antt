@@ -1,10 +1,9 @@
-use Rattle.std.proofs.Common.{sym, ap, subst}
+use Rattle.std.proofs.Common.{sym, ap, subst, rules}
 use Rattle.std.specs.List.{IsDistinct}
 use Rattle.xid.specs.Names.{xid_eq}
 use Rattle.branch_table.specs.Parts.{branch_of, Replaces}
 use Rattle.branch_table.specs.TableStates.{branch_named, in_state}
 use Rattle.std.specs.Option.{option_map}
-use Rattle.std.proofs.Common.{rules}
 use Rattle.branch_table.proofs.Found.{branches_of, not_absent, set_to}
 use Rattle.branch_table.proofs.branches.Branches.set_state.Goals as goal
 

@@ -1,5 +1,4 @@
-use Rattle.std.proofs.Common.{◌≡◌, ◌∙◌, true, sym, ap, subst}
-use Rattle.std.proofs.Common.{◌||◌, rules, length}
+use Rattle.std.proofs.Common.{◌≡◌, ◌∙◌, true, sym, ap, subst, ◌||◌, rules, length}
 use Rattle.std.specs.List.{IsDistinct}
 use Rattle.std.specs.Option.{option_map}
 use Rattle.std.specs.Prelude.{IfSome, nat_lt}

@@ -1,9 +1,8 @@
-use Rattle.std.proofs.Common.{◌≡◌, ◌∙◌, ◌+◌, ◌*◌, ◌<◌, ◌^◌, cond, refl, ap, subst, arith}
+use Rattle.std.proofs.Common.{◌≡◌, ◌∙◌, ◌+◌, ◌*◌, ◌<◌, ◌^◌, cond, refl, ap, subst, arith, drop, ◌-◌}
 use Rattle.std.specs.Str.{bytes_eq}
 use Rattle.branch_table.specs.Outcomes.{looks_after}
 use Rattle.branch_table.specs.Parts.{hold_at, hold_by, uses_by, uses_held}
 use Rattle.branch_table.proofs.Uses.{let_step, looks_more, looks_none, uses_step}
-use Rattle.std.proofs.Common.{drop, ◌-◌}
 use Rattle.branch_table.proofs.places.Places.let_go.Goals as goal
 
 pub loop-touched-init : goal.loop-touched-init

@@ -1,5 +1,4 @@
-use Rattle.std.proofs.Common.{◌∙◌, Some, None, sym, ap}
-use Rattle.std.proofs.Common.{cond}
+use Rattle.std.proofs.Common.{◌∙◌, Some, None, sym, ap, cond}
 use Rattle.protocol.specs.Managers.{idle_keys}
 use Rattle.branch_table.proofs.OutcomeSteps.{idle_from, idle_of}
 use Rattle.branch_table.proofs.table.BranchTable.prepare.Goals as goal

@@ -1,6 +1,5 @@
-use Rattle.std.proofs.Common.{◌≡◌, ◌∙◌, ◌+◌, ◌<◌, Some, None, Bool, List, ℕ, refl, sym, ap, subst, arith, inl, inr}
+use Rattle.std.proofs.Common.{◌≡◌, ◌∙◌, ◌+◌, ◌<◌, Some, None, Bool, List, ℕ, refl, sym, ap, subst, arith, inl, inr, ◌^◌}
 use Rattle.std.specs.Prelude.{is_some}
-use Rattle.std.proofs.Common.{◌^◌}
 use Rattle.stable_record.specs.declared.fact.Touched.{Touched}
 use Rattle.protocol.specs.declared.rows.Row.{Row}
 use Rattle.protocol.specs.declared.states.BranchState.{BranchState}

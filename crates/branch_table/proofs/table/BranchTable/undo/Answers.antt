@@ -1,10 +1,9 @@
 use Rattle.std.proofs.Common.{◌∙◌, ◌-◌, List, length, refl, sym, ap, subst}
 use Rattle.branch_table.specs.Outcomes.{HasLooked, keys_named}
-use Rattle.branch_table.specs.Parts.{branch_of}
+use Rattle.branch_table.specs.Parts.{branch_of, hold_at, uses_by, uses_held}
 use Rattle.branch_table.proofs.OutcomeSteps.{keys_found, keys_none, looks_absent, looks_ended}
 use Rattle.branch_table.proofs.TableKept.{kept_absent, kept_ended}
 use Rattle.stable_record.specs.declared.fact.Touched.{Touched}
-use Rattle.branch_table.specs.Parts.{hold_at, uses_by, uses_held}
 use Rattle.branch_table.proofs.table.BranchTable.undo.Goals as goal
 
 pub invariant_of-self : goal.invariant_of-self

@@ -1,9 +1,8 @@
-use Rattle.std.proofs.Common.{subst}
+use Rattle.std.proofs.Common.{subst, map}
 use Rattle.protocol.specs.Effects.{Config}
 use Rattle.protocol.specs.Nodes.{NodeState}
 use Rattle.floored.specs.Nodes.{FlooredParts}
 use Rattle.node_core.specs.Groups.{GroupsAs}
-use Rattle.std.proofs.Common.{map}
 use Rattle.node_core.specs.Nodes.{NodeStands, input_of}
 use Rattle.floored.proofs.Grouping.{sound_group}
 use Rattle.floored.proofs.Seen.{above_inside, groups_seen}

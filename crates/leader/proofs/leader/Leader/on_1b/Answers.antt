@@ -1,16 +1,13 @@
-use Rattle.std.proofs.Common.{◌∙◌, sym, ap}
+use Rattle.std.proofs.Common.{◌∙◌, sym, ap, subst}
 use Rattle.protocol.specs.Leaders as rules
 use Rattle.leader.specs.contracts.leader.Leader.{the_view}
-use Rattle.leader.specs.Courses.{after_1b, proposals_after_1b}
-use Rattle.leader.specs.Orders.{proposal_messages}
+use Rattle.leader.specs.Courses.{after_1b, proposals_after_1b, proposals_of, after_reports, counts_report}
+use Rattle.leader.specs.Orders.{proposal_messages, AreOf}
 use Rattle.leader.specs.Leaders.{course_of}
 use Rattle.leader.proofs.Leading.{sending, follows, reports_agree}
 use Rattle.leader.proofs.leader.Leader.on_1b.Goals as goal
-use Rattle.leader.specs.Courses.{proposals_of, after_reports, counts_report}
-use Rattle.leader.specs.Orders.{AreOf}
 use Rattle.leader.proofs.Proposing.{proposals_named}
 use Rattle.std.specs.Prelude.{List, [], if◌then◌else◌, true, false}
-use Rattle.std.proofs.Common.{subst}
 use Rattle.leader.specs.declared.proposals.Proposal.{Proposal}
 
 pub propose-requires-clause-named : goal.propose-requires-clause-named
