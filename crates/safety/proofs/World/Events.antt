@@ -17,7 +17,7 @@ use Rattle.wire.specs.Grammar.{spelling}
 use Rattle.protocol.specs.Nodes.{NodeState, Input, Asked, Received, ReceivedNoise, Fault, RecordFails, NoMemoryBefore, NoMemoryAt, Outcome}
 use Rattle.protocol.specs.Nodes.{node_step, restart_outcome, compact_outcome, all_play}
 use Rattle.protocol.specs.PaperItems.{unbundled}
-use Rattle.protocol.specs.Worlds.{World, Datagram, opening, if_found, StepResult, Occurrence, if_found, node_at, set_node, answer_result}
+use Rattle.protocol.specs.Worlds.{World, Datagram, opening, if_found, StepResult, Occurrence, node_at, set_node, answer_result}
 use Rattle.protocol.specs.Worlds.{outcome_result, at_node, datagram_at, mark_at, with_mark, cut_result, dispatch, world_step, world_after}
 use Rattle.xid.specs.declared.transaction.Vote.TheVariants as votes
 use Rattle.safety.specs.Items.{Item, Promised, Accepted, Began, Voted, Committed, StoredAbort, P1b, P2a, P2b, Commit, Abort}
