@@ -24,12 +24,13 @@ try: proof-tools
 	@echo "Interpreting $(SCRIPT), with no proofs: about a minute." >&2
 	@cd crates/pcommit && rt try --data script=$(abspath $(SCRIPT)) -- run script
 
-# everything: a sentence above each definition, figures and links on the pages, that wrong bodies and rules can be applied, each proof from
-# nothing, the must-fail edits, the tests, the programs as two compilers build them, the cases of single parts and of processes among them;
-# then, of what was built so, the golden scripts, runs and cases with each block of memory refused in turn, runs of many transactions, and
-# names that collide
+# everything: a sentence above each definition, who needs each file of proofs, figures and links on the pages, that wrong bodies and rules
+# can be applied, each proof from nothing, the must-fail edits, the tests, the programs as two compilers build them, the cases of single
+# parts and of processes among them; then, of what was built so, the golden scripts, runs and cases with each block of memory refused in
+# turn, runs of many transactions, and names that collide
 test: test-tools
 	tools/definitions.py --check
+	tools/needed.py --check
 	tools/pages.py --check
 	tests/wrong-bodies/run.py --check
 	tests/wrong-rules/run.py --check
@@ -104,9 +105,10 @@ wrong-bodies: proof-tools
 wrong-rules: proof-tools
 	tests/wrong-rules/run.py
 
-# writes every definition with its sentence to docs/DEFINITIONS.md, which isn't kept
+# writes every definition with its sentence to docs/DEFINITIONS.md, which isn't kept, and in files of proofs who needs them
 docs:
 	tools/definitions.py
+	tools/needed.py
 
 install: build
 	install -D bin/pcommit $(DESTDIR)$(PREFIX)/bin/pcommit

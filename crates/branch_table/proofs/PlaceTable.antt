@@ -1,5 +1,5 @@
 -- What is known of keys after a change of one entry.
--- Needed by 11 functions of this crate; TableKept.
+-- Needed by 11 functions of this crate.
 use Rattle.std.proofs.Common.{◌≡◌, ◌∙◌, ◌||◌, ℕ, ◌+◌, ◌-◌, ◌<◌, Result, Ok, Err, Bool, true, false, cond, List, [], ◌∷◌, map, Option, Some}
 use Rattle.std.proofs.Common.{None, refl, sym, ap, subst, arith}
 use Rattle.std.specs.List.{AllByRecursion, IsDistinct}

@@ -1,5 +1,5 @@
 -- What writes make of rows, key by key; ascending rows that have the same at each key are the same; and the rows among places, in order.
--- Needed by `Places::value_at`; KeyPlaces, PlaceTable and SortedRows; crates history and run_traces.
+-- Needed by `Places::put` and `Places::value_at`; KeyPlaces, PlaceTable, SortedRows and TableKept; crates history and run_traces.
 use Rattle.std.proofs.Common.{◌≡◌, ◌∙◌, ℕ, Bool, true, false, not, cond, List, [], ◌∷◌, Option, Some, None, unwrap_or, refl, sym, ap, subst}
 use Rattle.std.specs.Prelude.{filter, fold}
 use Rattle.std.specs.List.{AllByRecursion}

@@ -1,5 +1,5 @@
 -- Each fact that a rule of a resource manager stores changes the view of its transaction, and the step says so.
--- Needed by Conflicts, KeyCourses, Moves, Stretches and Told; crates cluster and audit.
+-- Needed by Conflicts, KeyCourses, Moves and Told; crates cluster and audit.
 use Rattle.std.proofs.Common.{◌≡◌, ◌∙◌, ℕ, Bool, true, false, ◌||◌, ◌==◌, if◌then◌else◌, List, [], ◌∷◌, ◌++◌, length, Some, None}
 use Rattle.std.proofs.Common.{is_some, refl, ap, arith}
 use Rattle.std.specs.List.{list_any}

@@ -1,5 +1,5 @@
 -- Tests on names, numbers and lists.
--- Needed by 12 files here; crate node_core.
+-- Needed by 13 files here; crate node_core.
 use Rattle.std.proofs.Common.{◌≡◌, ◌∙◌, ℕ, Bool, true, false, ◌&&◌, ◌||◌, ◌==◌, List, [], ◌∷◌, Option, None, sym, ap, refl, inl, inr}
 use Rattle.std.specs.Prelude.{cond, filter, filter_map}
 use Rattle.std.specs.List.{list_any, cons_option}

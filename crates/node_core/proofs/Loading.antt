@@ -1,5 +1,5 @@
 -- What reading a record leaves.
--- Needed by `load`; Looking, Restarting and Steps; crates cluster, groups and floored_groups.
+-- Needed by `load`; Looking, Restarting and Steps; crates groups and floored_groups.
 use Rattle.std.proofs.Common.{◌≡◌, ◌∙◌, ℕ, ◌-◌, List, [], ◌∷◌, ◌++◌, length, drop, take, refl, sym, ap, subst, inl, inr, arith}
 use Rattle.std.specs.Prelude.{◌⊎◌, IsTrue, true, map, Option, Some, None, Ok, Err}
 use Rattle.std.specs.List.{list_all, flat_map}

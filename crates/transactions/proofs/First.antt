@@ -1,5 +1,5 @@
 -- The transactions that things are about, in the order of the first.
--- Needed by Above; crates acceptor, leader, resource_manager and forgetting.
+-- Needed by Above; crates acceptor, leader, resource_manager, forgetting and audit.
 use Rattle.std.proofs.Common.{◌≡◌, ◌∙◌, Bool, true, false, ◌&&◌, ◌||◌, cond, List, [], ◌∷◌, ◌++◌, refl, sym, ap, subst}
 use Rattle.std.proofs.Common.{append_assoc, append-nil}
 use Rattle.std.specs.Prelude.{fold}

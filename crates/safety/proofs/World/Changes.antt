@@ -1,5 +1,5 @@
 -- An event changes no other view than the one that it says.
--- Needed by `changes_are_said`; crates floors, history, forgetting, cluster, cluster_run and run_traces.
+-- Needed by `changes_are_said`; 7 crates above.
 use Rattle.std.proofs.Common.{◌≡◌, ◌≢◌, ◌⊎◌, inl, inr, ◌∙◌, ℕ, Bool, true, false, ◌||◌, ◌==◌, if◌then◌else◌, List, [], ◌∷◌, ◌++◌, length}
 use Rattle.std.proofs.Common.{Option, Some, None, refl, sym, ap, subst, nat_lt, arith}
 use Rattle.std.specs.List.{list_any, slice_get}
