@@ -16,7 +16,6 @@ use Rattle.protocol.specs.declared.rows.Row.{Row}
 use Rattle.protocol.specs.Branches.{row_at}
 use Rattle.protocol.proofs.TouchedKeys.{later_by}
 use Rattle.branch_table.specs.Parts.{place_at, rows_in, table_of}
-use Rattle.branch_table.specs.declared.places.Place.{Place}
 use Rattle.branch_table.proofs.TableRows.{AscendRows, Known, before_more, first_value, flipped, same_rows, table_ascends, table_at}
 
 -- the keys of places, and of rows

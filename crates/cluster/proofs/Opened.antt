@@ -12,7 +12,6 @@ use Rattle.std.proofs.Math.Seq.{get_or-append_seam}
 use Rattle.std.proofs.lemmas.List.Elements.{All-push, All-head, All-tail}
 use Rattle.std.proofs.lemmas.Simd.{splat_is_map}
 use Rattle.xid.specs.declared.refusals.Refusal.{Refusal}
-use Rattle.stable_record.specs.declared.record.RecordError.TheVariants as errors
 use Rattle.stable_record.specs.Grammar.{IsStored}
 use Rattle.stable_record.specs.Behind.{behind}
 use Rattle.stable_record.specs.Floors.{front_of}
