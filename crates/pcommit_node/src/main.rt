@@ -2,20 +2,18 @@
 //! lines over TCP.
 #![tactic(auto)]
 
-ghost use Rattle.std.specs.Prelude.{◌≡◌, map, IfOk};
-ghost use Rattle.node_core.specs.Nodes.{AreSizes};
+ghost use Rattle.std.specs.Prelude.{map, IfOk};
+ghost use Rattle.node_socket.specs.Sockets.{BoundTo};
 
 mod door;
 mod life;
 mod logging;
-mod socket;
 mod stream;
 mod system;
 
 use crate::door::{DATAGRAMS, Door, LISTENER};
 use crate::life::live;
 use crate::logging::logger;
-use crate::socket::NodeSocket;
 use crate::system::System;
 use cluster_file::KEY;
 use hmac::Key;
@@ -28,6 +26,7 @@ use node_setup::{
     Failure, Options, Setup, address_fault, make_desk, node_places, open_node, place_text,
     read_options, record_path, replace, set_up,
 };
+use node_socket::NodeSocket;
 use port::Member;
 use signed_port::{PlainPort, SignedPort};
 use stable_record::FileRecord;
@@ -37,12 +36,11 @@ use xid::Floor;
 
 /// The node's socket for datagrams.
 fn bind(rt: &HostRuntime, poll: &Poll, setup: &Setup) -> Result<NodeSocket, Failure>
-    ensures places { IfOk result (λ socket. socket.places.items ≡ map (λ place. place.node) setup.now.cluster.places.items) }
-    ensures sizes { IfOk result (λ socket. AreSizes setup.now.cluster.config socket.sizes) }
+    ensures { IfOk result (BoundTo setup.now.cluster.config (map (λ place. place.node) setup.now.cluster.places.items)) }
 {
     let places = node_places(rt.alloc(), setup)?;
-    let (at, sizes) = (setup.place.node, setup.cluster.config.sizes());
-    match NodeSocket::bind(rt, poll.registry(), DATAGRAMS, at, sizes, places) {
+    let (at, config) = (setup.place.node, &setup.cluster.config);
+    match NodeSocket::bind(rt, poll.registry(), DATAGRAMS, at, config, places) {
         Ok(socket) => Ok(socket),
         Err(error) => Err(address_fault(rt.alloc(), at, error)),
     }

@@ -1,7 +1,7 @@
 //! What the system says of the process.
 
-use crate::socket::NodeSocket;
 use node_process::{Gauges, PortCounts};
+use node_socket::NodeSocket;
 use signed_port::{PlainPort, SignedPort};
 use std::fs;
 use xid::Refusal;

@@ -6,18 +6,19 @@ use Rattle.xid.specs.declared.refusals.Refusal.{Refusal}
 use Rattle.protocol.specs.declared.nodes.NodeId.{NodeId}
 use Rattle.protocol.specs.Worlds.{place}
 use Rattle.node_core.specs.Configs.{config_by}
+use Rattle.node_core.specs.Nodes.{AreSizes}
 use Rattle.node_core.specs.declared.config.Sizes.{Sizes}
 use Rattle.port.specs.Asks.{AsksAt}
 use Rattle.port.specs.Ports.{faults_after}
-use Rattle.pcommit_node.specs.declared.socket.NodeSocket.{NodeSocket}
+use Rattle.node_socket.specs.declared.socket.NodeSocket.{NodeSocket}
 
 -- the place to which a datagram to a node goes: the node's own, where acceptors come first, then leaders, then resource managers
 abbrev pub place_for : Sizes → List SocketAddr → NodeId → Option SocketAddr
 place_for sizes places receiver = option_and_then (slice_get places) (place (config_by sizes []) receiver)
 
--- a socket finds the nodes of a cluster of these sizes at these places
-pub record BoundTo (sizes : Sizes) (places : List SocketAddr) (socket : NodeSocket) : Type 0 where
-  pub cluster : socket.sizes ≡ sizes
+-- a socket finds the nodes of a cluster at these places
+pub record BoundTo (config : Config) (places : List SocketAddr) (socket : NodeSocket) : Type 0 where
+  pub cluster : AreSizes config socket.sizes
   pub found : socket.places.items ≡ places
 
 -- its count

@@ -1,11 +1,11 @@
 ghost use Rattle.std.specs.Prelude.{◌≡◌, ◌+◌, min, IfOk};
 ghost use Rattle.xid.specs.declared.refusals.Refusal.TheVariants.{PortFault};
 ghost use Rattle.stable_record.specs.Held.{IsCounted, most_faults};
-ghost use Rattle.pcommit_node.specs.Sockets.{place_for, socket_count, BoundTo};
+ghost use Rattle.node_socket.specs.Sockets.{place_for, socket_count, BoundTo};
 
 use mio::net::UdpSocket;
 use mio::{Interest, Registry, Token};
-use node_core::{Sizes, place_of};
+use node_core::{Config, Sizes, place_of};
 use node_process::PortCounts;
 use port::{CountedSocket, SendReply};
 use protocol::NodeId;
@@ -26,22 +26,24 @@ pub struct NodeSocket {
 }
 
 impl NodeSocket {
-    /// A socket at an address, of which a registry tells when something has come.
+    /// A socket at an address, of which a registry tells when something has come, for a node of a cluster whose nodes are found at these
+    /// places: acceptors first, then leaders, then resource managers. Refused where the system gives no such socket, or the registry
+    /// doesn't take it; nothing is left open then.
     pub fn bind<R: Net>(
         rt: &R,
         registry: &Registry,
         token: Token,
         at: SocketAddr,
-        sizes: Sizes,
+        config: &Config,
         places: Vec<SocketAddr>,
     ) -> io::Result<NodeSocket>
-        ensures { IfOk result (BoundTo sizes places.items) }
+        ensures { IfOk result (BoundTo config.now places.items) }
     {
         let mut socket = UdpSocket::bind(rt, at)?;
         registry.register(&mut socket, token, Interest::READABLE)?;
         Ok(NodeSocket {
             socket: CountedSocket::new(socket.into()),
-            sizes,
+            sizes: config.sizes(),
             places,
             taken: 0,
             sent: 0,
@@ -81,7 +83,7 @@ fn place_for(sizes: Sizes, places: &[SocketAddr], receiver: NodeId) -> Option<So
 }
 
 impl Carrier for NodeSocket {
-    ghost use Rattle.pcommit_node.specs.Sockets.{socket_count, SocketReceived, SocketSent};
+    ghost use Rattle.node_socket.specs.Sockets.{socket_count, SocketReceived, SocketSent};
 
     ghost fault_count = { socket_count };
 
