@@ -2,7 +2,7 @@
 use Rattle.std.proofs.Common.{◌≡◌, inl, inr, ℕ, List, [], ◌∷◌, sym, subst}
 use Rattle.xid.specs.Transactions.{TxParts}
 use Rattle.ballot.specs.Greatest.{IsIn}
-use Rattle.protocol.specs.Vocabulary.{Event, Stands as answers}
+use Rattle.safety.specs.Vocabulary.{Event, Stands as answers}
 use Rattle.safety.specs.CommitSteps.{committed}
 use Rattle.safety.specs.Runs.{IsReachable, After}
 use Rattle.protocol.specs.declared.events.Step.{Step}

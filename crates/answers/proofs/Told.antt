@@ -8,7 +8,7 @@ use Rattle.xid.specs.declared.transaction.Vote.TheVariants.{Prepared, Aborted}
 use Rattle.wire.specs.declared.message.Kind.{Kind}
 use Rattle.stable_record.specs.declared.fact.FactKind.{FactKind as Fact}
 use Rattle.ballot.specs.Greatest.{IsIn}
-use Rattle.protocol.specs.Vocabulary.{L, Ask, Request, Answer, Refused, Stands as answers, Status}
+use Rattle.safety.specs.Vocabulary.{L, Ask, Request, Answer, Refused, Stands as answers, Status}
 use Rattle.safety.specs.Items.{IsDecided}
 use Rattle.safety.specs.Runs.{IsReachable}
 use Rattle.safety.specs.Standing.{sent_in}

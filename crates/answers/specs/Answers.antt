@@ -2,7 +2,7 @@
 use Rattle.std.specs.Prelude.{◌≡◌, ◌≢◌, ◌⊎◌, ℕ, IsTrue}
 use Rattle.xid.specs.Transactions.{TxParts, is_participant}
 use Rattle.xid.specs.declared.transaction.Vote.TheVariants as votes
-use Rattle.protocol.specs.Vocabulary.{L, Request, Stands, Ask, View}
+use Rattle.safety.specs.Vocabulary.{L, Request, Stands, Ask, View}
 use Rattle.safety.specs.Items.{Voted}
 use Rattle.safety.specs.Runs.{views_in}
 use Rattle.safety.specs.Standing.{Stands as StandsIn}

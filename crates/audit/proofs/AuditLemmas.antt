@@ -2,7 +2,7 @@
 use Rattle.std.proofs.Common.{◌≡◌, ◌∙◌, ℕ, ◌+◌, ◌<◌, Bool, true, false, ◌&&◌, List, ◌∷◌, length, get_or, take, Result, Ok, Err, refl, sym}
 use Rattle.std.proofs.Common.{ap, subst}
 use Rattle.std.specs.Prelude.{IfOk}
-use Rattle.protocol.specs.Vocabulary.{Step, Row}
+use Rattle.safety.specs.Vocabulary.{Step, Row}
 use Rattle.net_script.specs.declared.values.Entry.{Entry}
 use Rattle.history.specs.SerialOrder.{first_commits}
 use Rattle.xid.specs.declared.refusals.Refusal.{Refusal}

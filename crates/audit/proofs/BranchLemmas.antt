@@ -7,7 +7,7 @@ use Rattle.std.proofs.lemmas.Bool.{and_parts}
 use Rattle.xid.specs.declared.refusals.Refusal.{Refusal}
 use Rattle.xid.proofs.Deciding.{xid_decides}
 use Rattle.xid.specs.Names.{XidParts, xid_eq}
-use Rattle.protocol.specs.Vocabulary.{Action, Answer, Event, Ask, Call, R}
+use Rattle.safety.specs.Vocabulary.{Action, Answer, Event, Ask, Call, R}
 use Rattle.audit.specs.Stretches.{StretchParts, stretch_after}
 use Rattle.audit.specs.ToldTables.{is_call_right, is_event_right}
 use Rattle.audit.specs.Books.{rows_of, stretch_of, Called, Sets}

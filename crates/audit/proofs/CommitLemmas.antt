@@ -4,7 +4,7 @@ use Rattle.std.specs.Prelude.{not, IsTrue}
 use Rattle.std.specs.Cmp.{unsigned_Decides}
 use Rattle.std.specs.List.{list_all, list_any}
 use Rattle.std.proofs.lemmas.Bool.{and_parts, and_from, or_left, or_right}
-use Rattle.protocol.specs.Vocabulary.{Change, Step, View}
+use Rattle.safety.specs.Vocabulary.{Change, Step, View}
 use Rattle.protocol.specs.TCommit.{IsReady, IsCommitMove}
 use Rattle.xid.specs.Transactions.{BranchParts, is_at, rm_numbers, TxParts, is_participant}
 use Rattle.history.specs.Lines.{view_back}

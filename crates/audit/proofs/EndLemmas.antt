@@ -8,7 +8,7 @@ use Rattle.std.proofs.lemmas.Bool.{and_parts, ltb-true, ltb-false}
 use Rattle.std.proofs.lemmas.List.{append_assoc, length-append, length-take-le, take_all, take-append-drop}
 use Rattle.std.proofs.lemmas.List.Elements.{All-take}
 use Rattle.transactions.proofs.First.{or_true}
-use Rattle.protocol.specs.Vocabulary.{Row}
+use Rattle.safety.specs.Vocabulary.{Row}
 use Rattle.net_script.specs.declared.trace_lines.TraceLine.TheVariants.{Contents}
 use Rattle.net_script.specs.Traces.{head_text, entry_text, final_line, final_lines}
 use Rattle.net_script.specs.TraceLines.{AreFinalRows, entry_lines, rows_lines, lines_of}

@@ -7,7 +7,7 @@ use Rattle.protocol.specs.declared.events.Told.{Told}
 use Rattle.protocol.specs.declared.nodes.NodeId.{NodeId}
 use Rattle.protocol.specs.declared.nodes.NodeId.TheVariants.{A, L}
 use Rattle.protocol.specs.declared.events.Event.TheVariants.{Restart, Raise, Hear, Replace}
-use Rattle.protocol.specs.Vocabulary.{Answer, Event, R}
+use Rattle.safety.specs.Vocabulary.{Answer, Event, R}
 use Rattle.audit.specs.Floors.{higher, FloorsTold, is_node, told_with, least_told, with_heard, with_raised, with_forgotten}
 use Rattle.audit.specs.Floors.{with_replaced, is_done, is_no_such, floors_by}
 use Rattle.audit.specs.FloorBooks.{entry_of, place_of, floor_at, told_in, told_at, notice_at, or_earlier, Keeps, HadBefore}

@@ -6,7 +6,7 @@ use Rattle.std.specs.List.{list_all}
 use Rattle.std.specs.Option.{option_map_or}
 use Rattle.std.proofs.lemmas.Bool.{and_parts}
 use Rattle.std.proofs.lemmas.List.Sums.{fold_push}
-use Rattle.protocol.specs.Vocabulary.{Answer, Event, Change, Step}
+use Rattle.safety.specs.Vocabulary.{Answer, Event, Change, Step}
 use Rattle.net_script.specs.declared.trace_lines.TraceLine.TheVariants.{Changed, Datagram, Notice}
 use Rattle.net_script.specs.TraceReaders.{told_by, takes_notice, is_alone, last_of, with_now, with_sent, with_notice, begun_with}
 use Rattle.net_script.proofs.DraftLemmas.{serve_tells_none}

@@ -6,7 +6,7 @@ use Rattle.std.specs.Option.{ForSome}
 use Rattle.std.proofs.lemmas.Bool.{and_parts}
 use Rattle.std.proofs.lemmas.List.{length-append, length_push}
 use Rattle.std.proofs.lemmas.List.Elements.{All-head, All-tail}
-use Rattle.protocol.specs.Vocabulary.{Change}
+use Rattle.safety.specs.Vocabulary.{Change}
 use Rattle.net_script.specs.declared.trace_lines.TraceLine.{TraceLine}
 use Rattle.net_script.specs.declared.trace_lines.TraceLine.TheVariants.{Cluster, Contents, Happened, Served, Changed, Datagram}
 use Rattle.net_script.specs.declared.trace_lines.TraceLine.TheVariants.{Notice, Final}

@@ -6,7 +6,7 @@ use Rattle.std.specs.Option.{option_map_or}
 use Rattle.std.proofs.lemmas.Bool.{and_parts}
 use Rattle.std.proofs.lemmas.List.{nil_from_length}
 use Rattle.std.proofs.lemmas.Option.{same_Some}
-use Rattle.protocol.specs.Vocabulary.{Answer, Event, Deliver, Change, Step, Row}
+use Rattle.safety.specs.Vocabulary.{Answer, Event, Deliver, Change, Step, Row}
 use Rattle.net_script.specs.declared.values.Sizes.{Sizes}
 use Rattle.net_script.specs.declared.trace_lines.TraceLine.TheVariants.{Cluster, Contents, Happened, Served, Changed, Datagram}
 use Rattle.net_script.specs.declared.trace_lines.TraceLine.TheVariants.{Notice, Final}

@@ -8,7 +8,7 @@ use Rattle.std.proofs.lemmas.Bool.{and_parts}
 use Rattle.std.proofs.lemmas.List.{reverse-append, map-append, take-append-drop}
 use Rattle.xid.specs.Names.{XidParts}
 use Rattle.xid.specs.Transactions.{TxParts, tx_eq}
-use Rattle.protocol.specs.Vocabulary.{Answer, Event, Deliver, Change, Step, Row}
+use Rattle.safety.specs.Vocabulary.{Answer, Event, Deliver, Change, Step, Row}
 use Rattle.protocol.specs.Tables.{with_writes}
 use Rattle.protocol.specs.declared.events.Sent.{Sent}
 use Rattle.protocol.specs.declared.events.Told.{Told}

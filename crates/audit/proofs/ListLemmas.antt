@@ -9,7 +9,7 @@ use Rattle.std.proofs.lemmas.List.Folds.{list_all_more}
 use Rattle.std.proofs.lemmas.List.Sums.{fold_more}
 use Rattle.std.proofs.Math.Seq.{take-suc}
 use Rattle.xid.specs.Transactions.{BranchParts, TxParts, participants, nth_branch}
-use Rattle.protocol.specs.Vocabulary.{Row, View}
+use Rattle.safety.specs.Vocabulary.{Row, View}
 use Rattle.protocol.specs.Tables.{put_row}
 use Rattle.net_script.specs.declared.values.Table.{Table}
 use Rattle.audit.specs.ToldTables.{first_rows_of, first_tables}

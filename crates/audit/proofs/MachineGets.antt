@@ -10,7 +10,7 @@ use Rattle.xid.specs.declared.codes.XaCode.TheVariants as code
 use Rattle.xid.specs.Names.{XidParts}
 use Rattle.xid.specs.Transactions.{TxParts, xid_at, participants}
 use Rattle.protocol.specs.Basics.{Act}
-use Rattle.protocol.specs.Vocabulary.{Action, Start, Put, Del, Get, End, EndFail, Rollback, Answer, Code, Value, NoValue, Row, Step}
+use Rattle.safety.specs.Vocabulary.{Action, Start, Put, Del, Get, End, EndFail, Rollback, Answer, Code, Value, NoValue, Row, Step}
 use Rattle.protocol.specs.Branches.{is_done, get_answer, row_at, value_after}
 use Rattle.protocol.specs.Effects.{Config}
 use Rattle.protocol.specs.Holds.{IsIn}

@@ -13,8 +13,8 @@ use Rattle.xid.specs.Transactions.{TxParts, xid_at}
 use Rattle.xid.proofs.Deciding.{xid_decides}
 use Rattle.protocol.specs.Basics.{Act, Touched}
 use Rattle.protocol.specs.declared.states.BranchState.TheVariants.{Active, Idle, RollbackOnly}
-use Rattle.protocol.specs.Vocabulary.{Action, Start, Put, Del, Get, End, EndFail, Rollback, Answer, Code, Value, NoValue, BranchState, R}
-use Rattle.protocol.specs.Vocabulary.{Event, Ask, Call, Step}
+use Rattle.safety.specs.Vocabulary.{Action, Start, Put, Del, Get, End, EndFail, Rollback, Answer, Code, Value, NoValue, BranchState, R}
+use Rattle.safety.specs.Vocabulary.{Event, Ask, Call, Step}
 use Rattle.protocol.specs.Branches.{is_done}
 use Rattle.protocol.specs.Effects.{Config}
 use Rattle.protocol.specs.Managers.{view_named}

@@ -12,7 +12,7 @@ use Rattle.xid.specs.Names.{XidParts}
 use Rattle.xid.specs.Transactions.{TxParts, xid_at}
 use Rattle.stable_record.specs.declared.fact.FactKind.TheVariants as stored
 use Rattle.protocol.specs.Basics.{Touched}
-use Rattle.protocol.specs.Vocabulary.{Action, Change, Row, Step}
+use Rattle.safety.specs.Vocabulary.{Action, Change, Row, Step}
 use Rattle.protocol.specs.Effects.{Config}
 use Rattle.protocol.specs.Holds.{IsIn}
 use Rattle.protocol.specs.Nodes.{NodeState, first_rows}

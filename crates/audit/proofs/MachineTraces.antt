@@ -17,7 +17,7 @@ use Rattle.stable_record.specs.Facts.{fact_tx}
 use Rattle.stable_record.specs.declared.fact.FactKind.TheVariants as stored
 use Rattle.protocol.specs.Basics.{Act, Fact, Touched}
 use Rattle.protocol.specs.declared.states.BranchState.TheVariants.{Active, Prepared}
-use Rattle.protocol.specs.Vocabulary.{Answer, Call, Code, Event, Ask, Get, NoValue, R, Refused, Row, Step, Change, Value, View}
+use Rattle.safety.specs.Vocabulary.{Answer, Call, Code, Event, Ask, Get, NoValue, R, Refused, Row, Step, Change, Value, View}
 use Rattle.protocol.specs.Branches.{BranchView, get_answer, is_done, key_fits, read_of, row_at, value_after}
 use Rattle.protocol.specs.Effects.{Config}
 use Rattle.protocol.specs.Facts.{view}

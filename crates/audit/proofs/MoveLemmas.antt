@@ -13,7 +13,7 @@ use Rattle.xid.specs.Transactions.{BranchParts, IsTx, is_at, rm_numbers, TxParts
 use Rattle.xid.proofs.Deciding.{tx_decides}
 use Rattle.transactions.proofs.Keys.{absent_from_place, present_from_place}
 use Rattle.wire.proofs.Ascending.{later}
-use Rattle.protocol.specs.Vocabulary.{Answer, Event, Change, Step, View}
+use Rattle.safety.specs.Vocabulary.{Answer, Event, Change, Step, View}
 use Rattle.history.specs.Lines.{view_back, changes_at}
 use Rattle.protocol.specs.declared.events.Sent.{Sent}
 use Rattle.protocol.specs.declared.events.Told.{Told}

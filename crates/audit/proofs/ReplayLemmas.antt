@@ -14,7 +14,7 @@ use Rattle.xid.specs.Transactions.{BranchParts, TxParts, IsTx, is_at, nth_branch
 use Rattle.wire.proofs.Ascending.{later}
 use Rattle.transactions.proofs.First.{or_true}
 use Rattle.protocol.specs.Basics.{Touched}
-use Rattle.protocol.specs.Vocabulary.{Row}
+use Rattle.safety.specs.Vocabulary.{Row}
 use Rattle.protocol.specs.Tables.{with_writes}
 use Rattle.safety.proofs.World.Changes.{or_none}
 use Rattle.audit.specs.Stretches.{Stretches, writes_in, writes_at}

@@ -13,7 +13,7 @@ use Rattle.std.specs.declared.cmp.Ordering.TheVariants.{Less, Equal, Greater}
 use Rattle.std.proofs.lemmas.Bool.Decides.{same_from_decides}
 use Rattle.std.proofs.lemmas.Map.Text.{is_eq-slice_cmp}
 use Rattle.std.proofs.lemmas.Slice.Eq.{bytes_eq-Decides}
-use Rattle.protocol.specs.Vocabulary.{Row}
+use Rattle.safety.specs.Vocabulary.{Row}
 use Rattle.protocol.specs.Branches.{row_at}
 use Rattle.protocol.specs.Tables.{put_row}
 use Rattle.audit.specs.Books.{rows_in}

@@ -11,7 +11,7 @@ use Rattle.std.proofs.lemmas.List.Sums.{fold-append, passes_at_first, prefix_len
 use Rattle.std.proofs.lemmas.List.Elements.{filter-append}
 use Rattle.xid.proofs.Texts.{list_all_get}
 use Rattle.transactions.proofs.Before.{turned}
-use Rattle.protocol.specs.Vocabulary.{Step, Row, View}
+use Rattle.safety.specs.Vocabulary.{Step, Row, View}
 use Rattle.audit.proofs.ListLemmas.{all_next, all_fails, participant_at, participants_many}
 use Rattle.std.specs.Cmp.{unsigned_Decides}
 use Rattle.xid.specs.Transactions.{BranchParts, is_at, rm_numbers, xid_of, TxParts, tx_eq, participants}

@@ -12,7 +12,7 @@ use Rattle.transactions.proofs.Keys.{absent_from_place}
 use Rattle.transactions.proofs.Rows.{number_same, is_seen, row_added, row_changed}
 use Rattle.std.specs.Option.{option_map_or}
 use Rattle.xid.specs.Transactions.{is_at, TxParts, tx_eq, participants}
-use Rattle.protocol.specs.Vocabulary.{Change, View}
+use Rattle.safety.specs.Vocabulary.{Change, View}
 use Rattle.audit.specs.Told.{may_move}
 use Rattle.audit.specs.Books.{ViewsParts, IsNumberOf, all_working, views_in, view_in, place_at, is_move_from, views_moved}
 

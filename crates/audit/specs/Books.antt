@@ -9,7 +9,7 @@ use Rattle.std.specs.Ordering.{nat_cmp, is_eq}
 use Rattle.std.specs.Str.{bytes_eq}
 use Rattle.xid.specs.Names.{XidParts, xid_eq}
 use Rattle.protocol.specs.Basics.{Act, Touched}
-use Rattle.protocol.specs.Vocabulary.{Answer, Action, Change, Row, View}
+use Rattle.safety.specs.Vocabulary.{Answer, Action, Change, Row, View}
 use Rattle.history.specs.Writes.{is_committed_view}
 use Rattle.audit.specs.Told.{may_move}
 use Rattle.audit.specs.Stretches.{StretchParts, Stretches, stretch_after, own_act, writes_at}

@@ -3,7 +3,7 @@
 use Rattle.std.specs.Prelude.{ℕ, Bool, ◌&&◌, List, filter, fold}
 use Rattle.std.specs.List.{list_all}
 use Rattle.xid.specs.Transactions.{TxParts, participants}
-use Rattle.protocol.specs.Vocabulary.{Step, Row}
+use Rattle.safety.specs.Vocabulary.{Step, Row}
 use Rattle.net_script.specs.declared.values.Trace.{Trace}
 use Rattle.audit.specs.declared.stretch.Shown.{Shown}
 use Rattle.protocol.specs.Tables.{with_writes}

@@ -6,7 +6,7 @@ use Rattle.xid.specs.Places.{Place}
 use Rattle.protocol.specs.declared.events.Told.{Told}
 use Rattle.protocol.specs.declared.nodes.NodeId.{NodeId}
 use Rattle.protocol.specs.declared.nodes.NodeId.TheVariants.{A, L}
-use Rattle.protocol.specs.Vocabulary.{R, Step}
+use Rattle.safety.specs.Vocabulary.{R, Step}
 use Rattle.net_script.specs.declared.values.Trace.{Trace}
 use Rattle.audit.specs.Told.{history_of, each_step}
 use Rattle.audit.specs.Floors.{FloorsTold, no_floors, floors_back, stays_above}

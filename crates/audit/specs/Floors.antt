@@ -14,7 +14,7 @@ use Rattle.protocol.specs.declared.nodes.NodeId.{NodeId}
 use Rattle.protocol.specs.declared.nodes.NodeId.TheVariants.{A, L}
 use Rattle.protocol.specs.declared.requests.Request.{Request}
 use Rattle.protocol.specs.declared.requests.Request.TheVariants.{Recover}
-use Rattle.protocol.specs.Vocabulary.{Answer, Code, Change, Event, Ask, Step, R, Action, Start, Call}
+use Rattle.safety.specs.Vocabulary.{Answer, Code, Change, Event, Ask, Step, R, Action, Start, Call}
 
 -- ---- places
 

@@ -2,7 +2,7 @@
 use Rattle.std.specs.Prelude.{◌≡◌, ℕ, Bool, true, ◌&&◌, List, ◌∷◌, Option, Some, None}
 use Rattle.xid.specs.Transactions.{IsTx, TxParts}
 use Rattle.xid.specs.Names.{XidParts}
-use Rattle.protocol.specs.Vocabulary.{Answer, Event, Change, Step, Row}
+use Rattle.safety.specs.Vocabulary.{Answer, Event, Change, Step, Row}
 use Rattle.history.specs.SerialOrder.{first_commits}
 use Rattle.audit.specs.Told.{moves_rightly, views_back}
 use Rattle.audit.specs.Stretches.{stretch_back, stretch_by}

@@ -5,7 +5,7 @@ use Rattle.xid.specs.Names.{XidParts, xid_eq}
 use Rattle.xid.specs.Transactions.{TxParts, xid_at}
 use Rattle.xid.specs.declared.codes.XaCode.{XaCode}
 use Rattle.protocol.specs.Basics.{Act, Touched}
-use Rattle.protocol.specs.Vocabulary.{Answer, Code, Value, NoValue, Event, Ask, Step, R, Action, Start, Put, Del, Get, Call}
+use Rattle.safety.specs.Vocabulary.{Answer, Code, Value, NoValue, Event, Ask, Step, R, Action, Start, Put, Del, Get, Call}
 use Rattle.audit.specs.declared.stretch.Shown.{Shown}
 use Rattle.history.specs.LookingBack.{last_act_on}
 

@@ -4,7 +4,7 @@ use Rattle.std.specs.Prelude.{Bool, true, false, not, ◌&&◌, List, [], ◌∷
 use Rattle.std.specs.List.{list_all}
 use Rattle.std.specs.Option.{option_map_or}
 use Rattle.xid.specs.Transactions.{TxParts, participants, is_participant}
-use Rattle.protocol.specs.Vocabulary.{Change, Deliver, Step, View}
+use Rattle.safety.specs.Vocabulary.{Change, Deliver, Step, View}
 use Rattle.history.specs.Lines.{view_back}
 use Rattle.history.specs.Writes.{is_committed_view}
 use Rattle.net_script.specs.declared.values.Entry.{Entry}

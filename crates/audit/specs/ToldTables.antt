@@ -5,7 +5,7 @@ use Rattle.std.specs.Option.{option_map_or, option_and_then, option_eq}
 use Rattle.std.specs.Str.{bytes_eq}
 use Rattle.xid.specs.Transactions.{TxParts}
 use Rattle.protocol.specs.Basics.{Act}
-use Rattle.protocol.specs.Vocabulary.{Answer, Value, NoValue, Event, Ask, Step, R, Action, Get, Call, Row}
+use Rattle.safety.specs.Vocabulary.{Answer, Value, NoValue, Event, Ask, Step, R, Action, Get, Call, Row}
 use Rattle.protocol.specs.Branches.{row_at, value_after}
 use Rattle.protocol.specs.Rows.{row_eq}
 use Rattle.protocol.specs.Tables.{put_row, with_writes}

@@ -2,7 +2,7 @@
 
 ghost use Rattle.std.specs.Prelude.{◌≡◌, List, false, [], ◌∷◌, ◌++◌, Option, None, Some, IfOk, IfErr, OnOk};
 ghost use Rattle.xid.specs.declared.refusals.Refusal.TheVariants.{NoMemory};
-ghost use Rattle.protocol.specs.Vocabulary.{Row};
+ghost use Rattle.safety.specs.Vocabulary.{Row};
 ghost use Rattle.net_script.specs.TraceReaders.{bare_step, with_now, begun_with};
 ghost use Rattle.net_script.specs.declared.values.Entry.{Entry};
 ghost use Rattle.net_script.specs.declared.values.Table.{Table};

@@ -7,7 +7,7 @@ ghost use Rattle.xid.specs.Places.{is_below};
 ghost use Rattle.xid.specs.declared.refusals.Refusal.TheVariants.{NoMemory};
 ghost use Rattle.protocol.specs.declared.events.Told.{Told};
 ghost use Rattle.protocol.specs.declared.nodes.NodeId.{NodeId};
-ghost use Rattle.protocol.specs.Vocabulary.{Step};
+ghost use Rattle.safety.specs.Vocabulary.{Step};
 ghost use Rattle.net_script.specs.declared.values.Trace.{Trace};
 ghost use Rattle.audit.specs.Floors.{FloorsTold, no_floors, higher, is_refused, is_call_refused, is_request_above, is_event_above};
 ghost use Rattle.audit.specs.Floors.{is_done, is_no_such, least_told, told_with};

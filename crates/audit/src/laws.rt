@@ -3,7 +3,7 @@
 ghost use Rattle.std.specs.Prelude.{◌≡◌, List, [], IsTrue, true, fold, map};
 ghost use Rattle.std.specs.List.{range_with_len};
 ghost use Rattle.xid.specs.Transactions.{is_participant};
-ghost use Rattle.protocol.specs.Vocabulary.{Change, Step};
+ghost use Rattle.safety.specs.Vocabulary.{Change, Step};
 ghost use Rattle.protocol.specs.Effects.{Config};
 ghost use Rattle.protocol.specs.Nodes.{first_rows};
 ghost use Rattle.protocol.specs.TCommit.{IsCommitMove};

@@ -4,7 +4,7 @@ ghost use Rattle.std.specs.Prelude.{◌≡◌, ℕ, List, [], ◌∷◌, ◌++�
 ghost use Rattle.std.specs.Option.{option_copied, option_map, option_map_or};
 ghost use Rattle.xid.specs.declared.refusals.Refusal.TheVariants.{NoMemory};
 ghost use Rattle.transactions.specs.Seen.{seen_with};
-ghost use Rattle.protocol.specs.Vocabulary.{Row, Step};
+ghost use Rattle.safety.specs.Vocabulary.{Row, Step};
 ghost use Rattle.protocol.specs.Tables.{with_writes};
 ghost use Rattle.net_script.specs.declared.values.Table.{Table};
 ghost use Rattle.audit.specs.Told.{step_of};

@@ -4,7 +4,7 @@ use Rattle.std.specs.Prelude.{map, Ok}
 use Rattle.std.specs.List.{AllByRecursion}
 use Rattle.xid.specs.Transactions.{TxParts}
 use Rattle.ballot.specs.Greatest.{IsIn}
-use Rattle.protocol.specs.Vocabulary.{L, NodeId, Request, Stands as answers}
+use Rattle.safety.specs.Vocabulary.{L, NodeId, Request, Stands as answers}
 use Rattle.safety.specs.CommitSteps.{committed}
 use Rattle.safety.specs.Runs as reachable
 use Rattle.protocol.specs.declared.states.Standing.{Standing}

@@ -5,7 +5,7 @@ use Rattle.xid.specs.declared.refusals.Refusal.TheVariants.{Forgotten}
 use Rattle.ballot.specs.Greatest.{IsIn}
 use Rattle.protocol.specs.declared.events.Step.{Step}
 use Rattle.protocol.specs.declared.states.Standing.{Standing}
-use Rattle.protocol.specs.Vocabulary.{Answer, Ask, Event, L, Refused, Request, Stands as answers}
+use Rattle.safety.specs.Vocabulary.{Answer, Ask, Event, L, Refused, Request, Stands as answers}
 use Rattle.protocol.specs.Effects.{Config}
 use Rattle.protocol.specs.Nodes.{Asked, Fault, NoFault, NoMemoryBefore, NoMemoryAt, RecordFails}
 use Rattle.protocol.specs.Worlds.{Occurrence, StepResult, World, step_of, trace, world_after, world_step}

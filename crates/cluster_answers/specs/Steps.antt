@@ -4,7 +4,7 @@ use Rattle.ballot.specs.Greatest.{IsIn}
 use Rattle.xid.specs.Transactions.{TxParts}
 use Rattle.protocol.specs.declared.events.Step.{Step}
 use Rattle.protocol.specs.declared.states.Standing.{Standing}
-use Rattle.protocol.specs.Vocabulary.{L, Request, Stands}
+use Rattle.safety.specs.Vocabulary.{L, Request, Stands}
 use Rattle.protocol.specs.Effects.{Config}
 use Rattle.protocol.specs.Nodes.{Input, Asked}
 use Rattle.protocol.specs.Worlds.{World}

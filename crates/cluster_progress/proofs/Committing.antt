@@ -6,7 +6,7 @@ use Rattle.std.proofs.lemmas.Bool.{eq-eqb}
 use Rattle.xid.specs.Transactions.{TxParts, is_participant}
 use Rattle.ballot.specs.Majority.{is_majority}
 use Rattle.protocol.specs.declared.requests.Request.TheVariants as requests
-use Rattle.protocol.specs.Vocabulary.{NodeId, L, R}
+use Rattle.safety.specs.Vocabulary.{NodeId, L, R}
 use Rattle.safety.specs.CommitSteps.{committed}
 use Rattle.safety.specs.Standing.{facts_of}
 use Rattle.protocol.specs.Effects.{Config, is_inside}

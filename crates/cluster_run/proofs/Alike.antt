@@ -10,7 +10,7 @@ use Rattle.std.proofs.lemmas.List.Sums.{take_while-cons}
 use Rattle.xid.specs.Names.{XidParts}
 use Rattle.xid.specs.Transactions.{TxParts, tx_eq, xid_at}
 use Rattle.protocol.specs.declared.events.Change.{Change}
-use Rattle.protocol.specs.Vocabulary.{Action, Row, Step, View}
+use Rattle.safety.specs.Vocabulary.{Action, Row, Step, View}
 use Rattle.protocol.specs.Branches.{no_branch}
 use Rattle.protocol.specs.Facts.{is_prepared_view}
 use Rattle.protocol.specs.Tables.{put_row, with_writes}

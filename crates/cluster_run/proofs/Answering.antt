@@ -4,7 +4,7 @@ use Rattle.std.proofs.Common.{Option, Some, None, refl, sym, ap, subst}
 use Rattle.std.specs.Option.{option_map_or}
 use Rattle.std.proofs.lemmas.Bool.{and_from, and_parts, both_ways, false_from_ne_true}
 use Rattle.xid.specs.declared.refusals.Refusal.TheVariants.{NoSuch}
-use Rattle.protocol.specs.Vocabulary.{A, Answer, Ask, Event, L, R, Refused, Request, Step}
+use Rattle.safety.specs.Vocabulary.{A, Answer, Ask, Event, L, R, Refused, Request, Step}
 use Rattle.protocol.specs.Effects.{Config}
 use Rattle.protocol.specs.Nodes.{NodeState, Asked, Fault, NoFault, NoMemoryBefore, NoMemoryAt, RecordFails, accepts_request}
 use Rattle.protocol.specs.Nodes.{answer_outcome, down_answer, effect_of, effect_outcome, node_step}

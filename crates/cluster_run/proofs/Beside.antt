@@ -2,7 +2,7 @@
 use Rattle.std.proofs.Common.{◌≡◌, ◌∙◌, List, [], ◌∷◌, ◌++◌, refl, sym, ap, subst}
 use Rattle.std.specs.Prelude.{reverse}
 use Rattle.std.proofs.lemmas.List.{reverse-append}
-use Rattle.protocol.specs.Vocabulary.{Step}
+use Rattle.safety.specs.Vocabulary.{Step}
 use Rattle.protocol.specs.Effects.{Config}
 use Rattle.protocol.specs.Worlds.{World, Occurrence, opening, step_of, trace, world_after, world_step}
 use Rattle.floors.proofs.Following.{after_both}

@@ -3,7 +3,7 @@ use Rattle.std.proofs.Common.{◌≡◌, ◌∙◌, ℕ, zero, suc, ◌+◌, ◌
 use Rattle.std.proofs.Common.{refl, sym, ap, subst, append_assoc, inl, inr, arith, ◌⊎◌, map, take, drop, get_or, take-append-drop}
 use Rattle.std.specs.List.{flat_map}
 use Rattle.std.proofs.lemmas.Grind.{flat_map-append, take_at_read}
-use Rattle.protocol.specs.Vocabulary.{Deliver, Event, Step}
+use Rattle.safety.specs.Vocabulary.{Deliver, Event, Step}
 use Rattle.cluster_run.specs.Happenings.{AreOfMemory, AreNext, IsFlow, IsDoneBy, AreDoneBy}
 use Rattle.cluster_run.specs.Running.{lines_from}
 use Rattle.cluster_run.proofs.Happening.{after_more, trace_more, memory_more}

@@ -10,7 +10,7 @@ use Rattle.std.proofs.lemmas.List.FromFn.{length-map-range_with_len}
 use Rattle.xid.specs.Limits.{most_key, most_value, most_leaders, most_managers}
 use Rattle.xid.proofs.Texts.{first_true, second_true}
 use Rattle.xid.specs.declared.refusals.Refusal.{Refusal}
-use Rattle.protocol.specs.Vocabulary.{Row}
+use Rattle.safety.specs.Vocabulary.{Row}
 use Rattle.cluster_run.specs.Runs.{is_in_limits}
 use Rattle.cluster_run.specs.Traces.{each_manager, first_rows_of}
 use Rattle.branch_table.specs.TableStates.{are_rows, is_row}

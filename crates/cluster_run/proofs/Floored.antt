@@ -11,8 +11,8 @@ use Rattle.xid.specs.Places.{Place, is_lower}
 use Rattle.xid.specs.declared.refusals.Refusal.TheVariants.{Busy, Down, NoMemory, NoSuch}
 use Rattle.protocol.specs.declared.decisions.Outgoing.{Outgoing}
 use Rattle.protocol.specs.declared.events.Change.{Change}
-use Rattle.protocol.specs.Vocabulary.{A, Answer, Ask, Compact, Deliver, Done, End, EndFail, Event, Get, Hear, L, Lose, NodeId, Put, Del, R}
-use Rattle.protocol.specs.Vocabulary.{Raise, Refused, Replace, Request, Restart, Rollback, Start, Step}
+use Rattle.safety.specs.Vocabulary.{A, Answer, Ask, Compact, Deliver, Done, End, EndFail, Event, Get, Hear, L, Lose, NodeId, Put, Del, R}
+use Rattle.safety.specs.Vocabulary.{Raise, Refused, Replace, Request, Restart, Rollback, Start, Step}
 use Rattle.protocol.specs.Effects.{Config}
 use Rattle.protocol.specs.Nodes.{NodeState, Asked, Fault, NoMemoryBefore, Outcome, compact_outcome, restart_outcome}
 use Rattle.protocol.specs.Worlds.{World, Datagram, Occurrence, StepResult, answer_result, change_of, datagram_at, datagrams_of, if_found}

@@ -1,7 +1,7 @@
 -- What commands make happen, one event after another.
 use Rattle.std.proofs.Common.{◌≡◌, ◌∙◌, List, [], ◌∷◌, ◌++◌, refl, sym, ap, subst, append_assoc}
 use Rattle.std.proofs.lemmas.List.{append-nil}
-use Rattle.protocol.specs.Vocabulary.{Step}
+use Rattle.safety.specs.Vocabulary.{Step}
 use Rattle.cluster_run.specs.Happenings.{AreOfMemory, IsNext, AreNext, IsDoneBy, AreDoneBy}
 use Rattle.protocol.specs.Effects.{Config}
 use Rattle.protocol.specs.Worlds.{Occurrence}

@@ -9,7 +9,7 @@ use Rattle.xid.specs.Transactions.{TxParts, is_participant, xid_at}
 use Rattle.xid.specs.declared.refusals.Refusal.TheVariants.{BadTx}
 use Rattle.protocol.specs.declared.events.Change.{Change}
 use Rattle.protocol.specs.declared.states.BranchState.{BranchState}
-use Rattle.protocol.specs.Vocabulary.{Action, Refused, Request, Stands, Step, View, Xids}
+use Rattle.safety.specs.Vocabulary.{Action, Refused, Request, Stands, Step, View, Xids}
 use Rattle.protocol.specs.Branches.{hinders}
 use Rattle.protocol.specs.Effects.{Config, is_inside, view_standing}
 use Rattle.protocol.specs.Facts.{is_prepared_view}

@@ -10,7 +10,7 @@ use Rattle.wire.specs.Decoding.{message_at}
 use Rattle.protocol.specs.declared.events.Change.{Change}
 use Rattle.protocol.specs.declared.events.Sent.{Sent}
 use Rattle.protocol.specs.declared.events.Told.{Told}
-use Rattle.protocol.specs.Vocabulary.{Answer, Step}
+use Rattle.safety.specs.Vocabulary.{Answer, Step}
 use Rattle.network.specs.Networks.{DatagramParts, NetworkParts}
 use Rattle.cluster.specs.Clusters.{listed_at}
 use Rattle.cluster.proofs.Sent.{sent_up_to, up_to_more}

@@ -2,7 +2,7 @@
 use Rattle.std.proofs.Common.{◌≡◌, inl, inr, ◌∙◌, Bool, true, false, if◌then◌else◌, List, refl, sym, ap, subst, ℕ}
 use Rattle.xid.specs.Names.{XidParts}
 use Rattle.protocol.specs.Basics.{Fact}
-use Rattle.protocol.specs.Vocabulary.{Action, Start, Row}
+use Rattle.safety.specs.Vocabulary.{Action, Start, Row}
 use Rattle.protocol.specs.Branches.{BranchView, hinders, is_done}
 use Rattle.protocol.specs.Effects.{Effect}
 use Rattle.protocol.specs.Facts.{bound_branches, is_spent}

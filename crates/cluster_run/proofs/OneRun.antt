@@ -1,7 +1,7 @@
 -- Where no event meets a fault, a script's run is one.
 use Rattle.std.proofs.Common.{◌≡◌, ◌∙◌, ◌⊎◌, inl, inr, ℕ, zero, suc, ◌≤◌, List, [], ◌∷◌, ◌++◌, length, Some, None, refl, sym, ap}
 use Rattle.std.proofs.Common.{subst, arith}
-use Rattle.protocol.specs.Vocabulary.{Deliver, Event, Row}
+use Rattle.safety.specs.Vocabulary.{Deliver, Event, Row}
 use Rattle.net_script.proofs.DraftLemmas.{trace}
 use Rattle.cluster_run.specs.Happenings.{AreUnmet, IsNext, AreNext, IsDoneBy, AreDoneBy}
 use Rattle.cluster_run.specs.Runs.{IsRun}

@@ -10,7 +10,7 @@ use Rattle.std.proofs.lemmas.List.Elements.{All-replicate}
 use Rattle.xid.specs.declared.refusals.Refusal.{Refusal}
 use Rattle.stable_record.specs.Held.{Held}
 use Rattle.stable_record.specs.Records.{fresh}
-use Rattle.protocol.specs.Vocabulary.{NodeId, R, Row}
+use Rattle.safety.specs.Vocabulary.{NodeId, R, Row}
 use Rattle.node_core.proofs.Placed.{place_within}
 use Rattle.cluster_run.specs.Running.{IsRunning}
 use Rattle.protocol.specs.Effects.{Config}

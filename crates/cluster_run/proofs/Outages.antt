@@ -5,7 +5,7 @@ use Rattle.std.specs.Prelude.{find, reverse}
 use Rattle.std.specs.Option.{option_map_or}
 use Rattle.std.proofs.lemmas.List.{append-nil}
 use Rattle.protocol.specs.declared.events.Sent.{Sent}
-use Rattle.protocol.specs.Vocabulary.{Answer, Cut, Deliver, Event, Step}
+use Rattle.safety.specs.Vocabulary.{Answer, Cut, Deliver, Event, Step}
 use Rattle.history.proofs.Datagrams.{sent_more}
 use Rattle.cluster_run.specs.Answers.{is_down, is_event_here}
 use Rattle.history.specs.Calls.{is_restart}

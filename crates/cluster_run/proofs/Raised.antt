@@ -6,7 +6,7 @@ use Rattle.std.proofs.lemmas.Bool.{cond_both, both_ways, not-true, eqb-true, ne_
 use Rattle.xid.specs.Places.{Place, is_lower, tx_place, xid_place}
 use Rattle.xid.specs.declared.refusals.Refusal.TheVariants.{Busy, Down, NoMemory, NoSuch}
 use Rattle.xid.proofs.Places.{not_lower, not_lower_self}
-use Rattle.protocol.specs.Vocabulary.{A, Answer, Done, Event, Hear, L, NodeId, R, Raise, Refused, Replace, Request, Step}
+use Rattle.safety.specs.Vocabulary.{A, Answer, Done, Event, Hear, L, NodeId, R, Raise, Refused, Replace, Request, Step}
 use Rattle.protocol.specs.Effects.{Config}
 use Rattle.protocol.specs.Nodes.{NodeState, Fault, NoMemoryBefore, NoMemoryAt, RecordFails}
 use Rattle.protocol.specs.Worlds.{node_at}

@@ -8,7 +8,7 @@ use Rattle.std.proofs.lemmas.List.Folds.{flat_map-map}
 use Rattle.std.proofs.lemmas.List.FromFn.{length-map-range_with_len}
 use Rattle.xid.specs.declared.refusals.Refusal.{Refusal}
 use Rattle.xid.specs.declared.refusals.Refusal.TheVariants.{NoMemory}
-use Rattle.protocol.specs.Vocabulary.{Row}
+use Rattle.safety.specs.Vocabulary.{Row}
 use Rattle.cluster_run.specs.Happenings.{AreOfMemory, AreDoneBy}
 use Rattle.cluster_run.specs.Running.{IsRunning, Prints, GoesOn, StopsIn, lines_from, so_far}
 use Rattle.cluster_run.specs.Runs.{is_in_limits, IsRunOf, PrintsRunOf, StopsRunOf}

@@ -3,7 +3,7 @@ use Rattle.std.proofs.Common.{◌≡◌, ◌≢◌, ◌∙◌, ℕ, List, ◌∷
 use Rattle.std.proofs.Math.Path.{fun_ext}
 use Rattle.xid.specs.Transactions.{TxParts, is_participant}
 use Rattle.xid.specs.declared.refusals.Refusal.TheVariants.{Damaged}
-use Rattle.protocol.specs.Vocabulary.{NodeId, Event, Refused, Restart, Step, View}
+use Rattle.safety.specs.Vocabulary.{NodeId, Event, Refused, Restart, Step, View}
 use Rattle.cluster_run.specs.Headlines.{views_back, IsSafeStep, AreSafe}
 use Rattle.protocol.specs.Effects.{Config}
 use Rattle.protocol.specs.Nodes.{Fault}

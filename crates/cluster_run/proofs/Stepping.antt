@@ -2,7 +2,7 @@
 use Rattle.std.proofs.Common.{◌≡◌, ◌∙◌, ℕ, List, [], ◌∷◌, ◌++◌, length, Option, Some, None, refl, sym, ap, subst}
 use Rattle.std.proofs.Common.{◌+◌, ◌-◌, ◌<◌, ◌≤◌, inl, inr, arith}
 use Rattle.std.proofs.lemmas.List.{append-nil, length_push}
-use Rattle.protocol.specs.Vocabulary.{Deliver, Event, Step}
+use Rattle.safety.specs.Vocabulary.{Deliver, Event, Step}
 use Rattle.cluster_run.specs.Happenings.{IsOfMemory, AreOfMemory, IsNext, AreNext, IsFlow, IsDoneBy, AreDoneBy}
 use Rattle.cluster_run.specs.Running.{IsRunning, Printed, Prints, PrintsShort, ComesTo, GoesOn, FallsShort, lines_from, so_far}
 use Rattle.cluster_run.proofs.Completing.{commands_on, done_on, flow_after, flow_on, lines_more}

@@ -7,7 +7,7 @@ use Rattle.std.proofs.lemmas.Bool.{both_ways, lt-ltb}
 use Rattle.std.proofs.lemmas.List.{same_lists}
 use Rattle.std.proofs.lemmas.List.FromFn.{get_or-map-range_with_len, length-map-range_with_len, map-range_with_len_more}
 use Rattle.xid.specs.Transactions.{TxParts}
-use Rattle.protocol.specs.Vocabulary.{Action, Get, R, Row, Step}
+use Rattle.safety.specs.Vocabulary.{Action, Get, R, Row, Step}
 use Rattle.cluster_run.specs.Traces.{config_of, each_manager, run_history, IsTraceOf, last_world, LooksBack, IsSerial}
 use Rattle.cluster_run.specs.Traces.{AreConflictsOrdered, AreReadsSerial}
 use Rattle.protocol.specs.Branches.{BranchView, get_answer, row_at, value_after}

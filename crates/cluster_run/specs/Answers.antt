@@ -5,7 +5,7 @@ use Rattle.std.specs.Prelude.{Option, Some, None}
 use Rattle.std.specs.List.{list_any}
 use Rattle.xid.specs.Places.{Place}
 use Rattle.xid.specs.declared.refusals.Refusal.TheVariants.{NoSuch, NoMemory}
-use Rattle.protocol.specs.Vocabulary.{Answer, Ask, Event, R, Raise, Refused, Request, Step}
+use Rattle.safety.specs.Vocabulary.{Answer, Ask, Event, R, Raise, Refused, Request, Step}
 use Rattle.protocol.specs.Effects.{Config}
 use Rattle.protocol.specs.Nodes.{Asked, accepts_request, down_answer}
 use Rattle.floors.specs.Nodes.{forgotten_answer, is_request_below}

@@ -1,6 +1,6 @@
 -- What the commands of a script make happen in its cluster, event by event.
 use Rattle.std.specs.Prelude.{◌≡◌, ◌⊎◌, ℕ, ◌≤◌, List, [], ◌∷◌, ◌++◌, length, Some, None}
-use Rattle.protocol.specs.Vocabulary.{Deliver}
+use Rattle.safety.specs.Vocabulary.{Deliver}
 use Rattle.protocol.specs.Effects.{Config}
 use Rattle.protocol.specs.Nodes.{Fault, NoFault, RecordFails}
 use Rattle.protocol.specs.Worlds.{Occurrence}

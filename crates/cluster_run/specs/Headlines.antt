@@ -2,7 +2,7 @@
 use Rattle.std.specs.Prelude.{◌≡◌, ◌≢◌, ℕ, IsTrue, List, [], ◌∷◌}
 use Rattle.xid.specs.Transactions.{TxParts, is_participant}
 use Rattle.xid.specs.declared.refusals.Refusal.TheVariants.{Damaged}
-use Rattle.protocol.specs.Vocabulary.{NodeId, Refused, Restart, Step, View}
+use Rattle.safety.specs.Vocabulary.{NodeId, Refused, Restart, Step, View}
 use Rattle.protocol.specs.TCommit.{IsReady, IsCommitStep}
 use Rattle.safety.specs.CommitSteps.{IsConsistent}
 use Rattle.history.specs.Lines.{view_back}

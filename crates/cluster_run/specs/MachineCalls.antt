@@ -3,7 +3,7 @@ use Rattle.std.specs.Prelude.{◌≡◌, ℕ, Bool, true, List}
 use Rattle.xid.specs.Names.{XidParts}
 use Rattle.xid.specs.declared.codes.XaCode.TheVariants as code
 use Rattle.protocol.specs.Basics.{Fact}
-use Rattle.protocol.specs.Vocabulary.{Action, Start, Answer, Code, Row}
+use Rattle.safety.specs.Vocabulary.{Action, Start, Answer, Code, Row}
 use Rattle.protocol.specs.Facts.{bound_branches}
 use Rattle.protocol.specs.Branches.{BranchView}
 use Rattle.protocol.specs.Effects.{Effect}

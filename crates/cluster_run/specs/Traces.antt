@@ -4,7 +4,7 @@ use Rattle.std.specs.Prelude.{◌≡◌, ◌≢◌, true, ℕ, ◌==◌, if◌th
 use Rattle.std.specs.List.{list_any, range_with_len}
 use Rattle.xid.specs.Names.{XidParts}
 use Rattle.xid.specs.Transactions.{TxParts, xid_at}
-use Rattle.protocol.specs.Vocabulary.{Get, Row, Step}
+use Rattle.safety.specs.Vocabulary.{Get, Row, Step}
 use Rattle.protocol.specs.Branches.{get_answer}
 use Rattle.protocol.specs.Effects.{Config}
 use Rattle.protocol.specs.Holds.{IsIn}

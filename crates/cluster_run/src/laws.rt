@@ -1,7 +1,7 @@
 //! What the machine's client calls come to in a cluster, and what the trace of a script says of itself.
 ghost use Rattle.std.specs.Prelude.{◌≡◌, ℕ, List, Some};
 ghost use Rattle.xid.specs.Names.{XidParts};
-ghost use Rattle.protocol.specs.Vocabulary.{R, Action, Row};
+ghost use Rattle.safety.specs.Vocabulary.{R, Action, Row};
 ghost use Rattle.protocol.specs.Managers.{stored_votes, on_call};
 ghost use Rattle.protocol.specs.Effects.{Config};
 ghost use Rattle.protocol.specs.Facts.{is_spent};

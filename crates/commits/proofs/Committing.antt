@@ -3,7 +3,7 @@ use Rattle.std.proofs.Common.{◌≡◌, ◌⊎◌, inl, inr, ℕ, ◌<◌, ◌�
 use Rattle.xid.specs.Transactions.{TxParts, is_participant}
 use Rattle.xid.specs.declared.transaction.Vote.TheVariants.{Prepared}
 use Rattle.ballot.specs.Majority.{is_majority}
-use Rattle.protocol.specs.Vocabulary.{NodeId, A, Stands as answers}
+use Rattle.safety.specs.Vocabulary.{NodeId, A, Stands as answers}
 use Rattle.safety.specs.CommitSteps.{committed}
 use Rattle.safety.specs.Standing.{facts_at, facts_of}
 use Rattle.safety.proofs.Facts.{participates, among_participants}

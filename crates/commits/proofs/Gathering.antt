@@ -9,7 +9,7 @@ use Rattle.stable_record.specs.Frames.{frame_length}
 use Rattle.stable_record.specs.declared.fact.FactKind.TheVariants as stored
 use Rattle.ballot.specs.Greatest.{IsIn}
 use Rattle.protocol.specs.Basics.{Fact}
-use Rattle.protocol.specs.Vocabulary.{NodeId, A, L, Outgoing}
+use Rattle.safety.specs.Vocabulary.{NodeId, A, L, Outgoing}
 use Rattle.safety.specs.Standing.{facts_at, facts_of}
 use Rattle.safety.proofs.World.Reachable.{held_accept}
 use Rattle.protocol.specs.Acceptors.{is_accepted, accept_messages, on_2a}

@@ -9,7 +9,7 @@ use Rattle.xid.proofs.Deciding.{xid_self}
 use Rattle.ballot.specs.Greatest.{IsIn}
 use Rattle.ballot.specs.Majority.{is_majority, count}
 use Rattle.protocol.specs.Basics.{Fact}
-use Rattle.protocol.specs.Vocabulary.{BranchState, NodeId, A, L, R, Event, Ask, Start, End, Call}
+use Rattle.safety.specs.Vocabulary.{BranchState, NodeId, A, L, R, Event, Ask, Start, End, Call}
 use Rattle.safety.specs.CommitSteps.{committed}
 use Rattle.safety.specs.Runs.{Opening}
 use Rattle.safety.specs.Standing.{facts_of, facts_at}

@@ -16,7 +16,7 @@ use Rattle.stable_record.specs.Facts.{fact_tx}
 use Rattle.stable_record.specs.declared.fact.FactKind.TheVariants as stored
 use Rattle.ballot.specs.Greatest.{IsIn}
 use Rattle.protocol.specs.Basics.{Fact, Touched}
-use Rattle.protocol.specs.Vocabulary.{BranchState, NodeId, A, L, R, Outgoing}
+use Rattle.safety.specs.Vocabulary.{BranchState, NodeId, A, L, R, Outgoing}
 use Rattle.safety.specs.Standing.{facts_at, facts_of}
 use Rattle.safety.proofs.World.Events.{safe_ever}
 use Rattle.protocol.specs.Effects.{Config, Effect, is_inside, no_effect, sends_only}

@@ -14,7 +14,7 @@ use Rattle.ballot.specs.Majority.{is_majority, count}
 use Rattle.ballot.proofs.Greatest.{at_most_greatest}
 use Rattle.ballot.proofs.Majorities.{majorities_meet}
 use Rattle.protocol.specs.Basics.{Fact}
-use Rattle.protocol.specs.Vocabulary.{NodeId, A, L, R, Outgoing, Ask, Managers, Refused, Status, Request, Stands as answers}
+use Rattle.safety.specs.Vocabulary.{NodeId, A, L, R, Outgoing, Ask, Managers, Refused, Status, Request, Stands as answers}
 use Rattle.safety.specs.Items.{Item, Accepted, Voted, P2a, IsDecided}
 use Rattle.safety.specs.Invariant.{Invariant}
 use Rattle.safety.specs.Standing.{Stands, setting, facts_at, facts_of, sent_in}

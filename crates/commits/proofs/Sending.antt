@@ -14,7 +14,7 @@ use Rattle.wire.specs.declared.message.Kind.TheVariants.{P2a}
 use Rattle.stable_record.specs.declared.fact.FactKind.TheVariants as stored
 use Rattle.ballot.specs.Greatest.{IsIn}
 use Rattle.protocol.specs.Basics.{Fact}
-use Rattle.protocol.specs.Vocabulary.{NodeId, A, L, R, Outgoing, Acceptors, Leaders, Refused}
+use Rattle.safety.specs.Vocabulary.{NodeId, A, L, R, Outgoing, Acceptors, Leaders, Refused}
 use Rattle.safety.specs.Standing.{facts_at, facts_of}
 use Rattle.protocol.specs.Effects.{Config, Effect, is_inside, answer_only, sends_only, to}
 use Rattle.protocol.specs.Facts.{is_vote_of, vote_in, view, is_prepared_view, HasVote}

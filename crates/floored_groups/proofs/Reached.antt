@@ -6,7 +6,7 @@ use Rattle.std.specs.Prelude.{slice_get}
 use Rattle.std.specs.List.{AllByRecursion}
 use Rattle.xid.specs.Places.{Place}
 use Rattle.xid.specs.Transactions.{TxParts, is_participant}
-use Rattle.protocol.specs.Vocabulary.{NodeId, Answer, Event, Restart, Compact, Tear}
+use Rattle.safety.specs.Vocabulary.{NodeId, Answer, Event, Restart, Compact, Tear}
 use Rattle.safety.specs.CommitSteps.{IsConsistent}
 use Rattle.safety.specs.Runs.{views_in}
 use Rattle.protocol.specs.Effects.{Config}

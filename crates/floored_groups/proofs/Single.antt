@@ -12,7 +12,7 @@ use Rattle.ballot.specs.Greatest.{IsIn}
 use Rattle.wire.specs.declared.message.Kind.{Kind}
 use Rattle.stable_record.specs.declared.fact.FactKind.{FactKind as Fact}
 use Rattle.protocol.specs.declared.requests.Request.{Request}
-use Rattle.protocol.specs.Vocabulary.{NodeId, A, L, R, Outgoing, Done, Refused, Event, Ask, Deliver, Noise, Restart, Compact, Tear}
+use Rattle.safety.specs.Vocabulary.{NodeId, A, L, R, Outgoing, Done, Refused, Event, Ask, Deliver, Noise, Restart, Compact, Tear}
 use Rattle.protocol.proofs.Lists.{IsIn-append, IsIn-before, IsIn-after, IsIn-map, IsIn-mapped}
 use Rattle.progress.proofs.Mail.{Letter, letter_of, mail, marked_mail, deliverable, letters, letters_of, posted_mail}
 use Rattle.progress.proofs.Backed.{AllAmong}

@@ -6,7 +6,7 @@ use Rattle.xid.specs.Places.{Place}
 use Rattle.xid.specs.Transactions.{TxParts, is_participant}
 use Rattle.xid.specs.declared.refusals.Refusal.TheVariants.{Down, Forgotten, NoSuch}
 use Rattle.ballot.specs.Greatest.{IsIn}
-use Rattle.protocol.specs.Vocabulary.{L, NodeId, R, Refused, Request, Stands as answers}
+use Rattle.safety.specs.Vocabulary.{L, NodeId, R, Refused, Request, Stands as answers}
 use Rattle.safety.specs.CommitSteps.{committed}
 use Rattle.safety.specs.Runs as reachable
 use Rattle.safety.specs.Runs.{views_in}

@@ -7,7 +7,7 @@ use Rattle.std.specs.Option.{option_map_or}
 use Rattle.xid.specs.Places.{Place, is_lower}
 use Rattle.xid.specs.declared.refusals.Refusal.TheVariants.{NoSuch, Down, Busy}
 use Rattle.xid.proofs.Places.{not_below_none}
-use Rattle.protocol.specs.Vocabulary.{NodeId, A, L, R, Answer, Done, Refused, Event, Restart, Compact}
+use Rattle.safety.specs.Vocabulary.{NodeId, A, L, R, Answer, Done, Refused, Event, Restart, Compact}
 use Rattle.protocol.specs.Effects.{Config}
 use Rattle.protocol.specs.Nodes.{NodeState, Fault, NoFault, NoMemoryBefore, NoMemoryAt, RecordFails, Outcome, restart_outcome}
 use Rattle.protocol.specs.Nodes.{compact_outcome}

@@ -2,7 +2,7 @@
 use Rattle.std.proofs.Common.{◌≡◌, ◌∙◌, List, [], ◌∷◌, ◌++◌, refl, sym, ap, subst}
 use Rattle.std.specs.Prelude.{reverse}
 use Rattle.std.proofs.lemmas.List.{reverse-append}
-use Rattle.protocol.specs.Vocabulary.{Event, Step}
+use Rattle.safety.specs.Vocabulary.{Event, Step}
 use Rattle.protocol.specs.Effects.{Config}
 use Rattle.protocol.specs.Nodes.{Fault}
 use Rattle.protocol.specs.Worlds.{World, Occurrence, StepResult, opening, step_of, trace, world_after, world_step}

@@ -1,6 +1,6 @@
 -- What happened in a cluster with floors.
 use Rattle.std.specs.Prelude.{List}
-use Rattle.protocol.specs.Vocabulary.{Step}
+use Rattle.safety.specs.Vocabulary.{Step}
 use Rattle.protocol.specs.Effects.{Config}
 use Rattle.history.specs.Lines.{history}
 use Rattle.floors.specs.Worlds.{FlooredWorld}

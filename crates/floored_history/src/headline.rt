@@ -5,7 +5,7 @@ ghost use Rattle.xid.specs.Names.{XidParts};
 ghost use Rattle.xid.specs.Transactions.{TxParts, xid_at};
 ghost use Rattle.stable_record.specs.declared.fact.FactKind.TheVariants as stored;
 ghost use Rattle.protocol.specs.Basics.{Touched};
-ghost use Rattle.protocol.specs.Vocabulary.{R, Ask, Event, Get, Request, Step};
+ghost use Rattle.safety.specs.Vocabulary.{R, Ask, Event, Get, Request, Step};
 ghost use Rattle.protocol.specs.Branches.{get_answer, is_write};
 ghost use Rattle.protocol.specs.Effects.{Config};
 ghost use Rattle.protocol.specs.Facts.{bound_branches};

@@ -23,7 +23,7 @@ use Rattle.protocol.specs.declared.decisions.Address.{Address}
 use Rattle.protocol.specs.declared.decisions.Address.TheVariants.{Acceptors, Leaders, Managers}
 use Rattle.protocol.specs.declared.states.Status.{Status}
 use Rattle.protocol.specs.declared.states.Status.TheVariants as statuses
-use Rattle.protocol.specs.Vocabulary.{NodeId, A, L, R, Outgoing}
+use Rattle.safety.specs.Vocabulary.{NodeId, A, L, R, Outgoing}
 use Rattle.protocol.specs.Acceptors.{Slots, is_some_below, is_accepted, report_after, accept_messages, on_1a, on_b1a, on_2a}
 use Rattle.protocol.specs.Acceptors.{on_acceptor_message}
 use Rattle.protocol.specs.Effects.{Config, Effect, is_inside, to}

@@ -14,7 +14,7 @@ use Rattle.xid.specs.declared.refusals.Refusal.TheVariants.{NoSuch, Forged, Down
 use Rattle.stable_record.specs.declared.fact.FactKind.TheVariants as stored
 use Rattle.protocol.specs.Basics.{Fact}
 use Rattle.protocol.specs.declared.states.View.TheVariants as views
-use Rattle.protocol.specs.Vocabulary.{NodeId, A, L, R, Done, Refused, Event, Ask, Deliver, Lose, Cut, Noise, Tear, Restart, Compact}
+use Rattle.safety.specs.Vocabulary.{NodeId, A, L, R, Done, Refused, Event, Ask, Deliver, Lose, Cut, Noise, Tear, Restart, Compact}
 use Rattle.safety.specs.Runs.{views_in}
 use Rattle.safety.specs.Standing.{facts_of}
 use Rattle.safety.proofs.World.Growth.{same_node}

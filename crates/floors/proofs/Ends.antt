@@ -16,7 +16,7 @@ use Rattle.ballot.specs.Majority.{is_majority}
 use Rattle.protocol.specs.declared.requests.Request.TheVariants as requests
 use Rattle.protocol.specs.declared.states.Standing.TheVariants as standings
 use Rattle.protocol.specs.declared.states.Status.TheVariants as statuses
-use Rattle.protocol.specs.Vocabulary.{NodeId, A, L, R, View, Outgoing, Managers, Refused, Answer, Stands as answers, Status, Timeout, Ask}
+use Rattle.safety.specs.Vocabulary.{NodeId, A, L, R, View, Outgoing, Managers, Refused, Answer, Stands as answers, Status, Timeout, Ask}
 use Rattle.safety.specs.CommitSteps.{committed, aborted}
 use Rattle.safety.specs.Runs.{IsReachable, views_in}
 use Rattle.safety.specs.Standing.{facts_of}

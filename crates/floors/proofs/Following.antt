@@ -2,7 +2,7 @@
 use Rattle.std.proofs.Common.{◌≡◌, ◌∙◌, inl, Bool, true, false, if◌then◌else◌, List, [], ◌∷◌, ◌++◌, refl, sym, ap, subst}
 use Rattle.std.specs.Prelude.{slice_get}
 use Rattle.xid.specs.Transactions.{TxParts, is_participant}
-use Rattle.protocol.specs.Vocabulary.{Event, Ask, Deliver, Lose, Restart, Compact}
+use Rattle.safety.specs.Vocabulary.{Event, Ask, Deliver, Lose, Restart, Compact}
 use Rattle.safety.specs.CommitSteps.{IsConsistent}
 use Rattle.safety.specs.Runs.{IsReachable, views_in}
 use Rattle.safety.specs.Runs as reachable

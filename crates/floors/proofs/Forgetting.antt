@@ -3,7 +3,7 @@ use Rattle.std.proofs.Common.{◌≡◌, ℕ, Bool, true, false, if◌then◌els
 use Rattle.xid.specs.Places.{Place}
 use Rattle.protocol.specs.Basics.{Fact}
 use Rattle.protocol.specs.declared.requests.Request.TheVariants as requests
-use Rattle.protocol.specs.Vocabulary.{L}
+use Rattle.safety.specs.Vocabulary.{L}
 use Rattle.protocol.specs.Effects.{Config, no_effect}
 use Rattle.protocol.specs.Facts.{last_ballot}
 use Rattle.protocol.specs.Kept.{kept_leader, kept_memory}

@@ -11,7 +11,7 @@ use Rattle.xid.proofs.Deciding.{tx_decides}
 use Rattle.wire.specs.Messages.{message_tx}
 use Rattle.ballot.specs.Greatest.{IsIn}
 use Rattle.protocol.specs.Basics.{Fact}
-use Rattle.protocol.specs.Vocabulary.{NodeId, Outgoing, Event, Ask, Deliver, Restart, Timeout}
+use Rattle.safety.specs.Vocabulary.{NodeId, Outgoing, Event, Ask, Deliver, Restart, Timeout}
 use Rattle.safety.specs.Runs.{IsReachable}
 use Rattle.safety.proofs.World.Outcomes.{step_is}
 use Rattle.protocol.specs.Effects.{Config, receivers}

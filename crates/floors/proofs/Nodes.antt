@@ -20,7 +20,7 @@ use Rattle.protocol.specs.Basics.{Fact}
 use Rattle.protocol.specs.declared.requests.Request.TheVariants as requests
 use Rattle.protocol.specs.declared.states.View.TheVariants as views
 use Rattle.protocol.specs.declared.states.BranchState.{BranchState}
-use Rattle.protocol.specs.Vocabulary.{NodeId, R, Action, Start, Put, Del, Get, End, EndFail, Rollback, Refused}
+use Rattle.safety.specs.Vocabulary.{NodeId, R, Action, Start, Put, Del, Get, End, EndFail, Rollback, Refused}
 use Rattle.protocol.specs.Branches.{is_done}
 use Rattle.protocol.specs.Effects.{Config, Effect, is_inside}
 use Rattle.protocol.specs.Facts.{view, is_open_view, is_prepared_view}

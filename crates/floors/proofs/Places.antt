@@ -6,7 +6,7 @@ use Rattle.std.specs.Option.{option_and_then, option_map_or}
 use Rattle.std.proofs.lemmas.Option.{slice_get_past}
 use Rattle.std.proofs.lemmas.Bool.{eqb-true, eq-eqb}
 use Rattle.protocol.specs.Basics.{Fact}
-use Rattle.protocol.specs.Vocabulary.{NodeId, A, L, R, Answer}
+use Rattle.safety.specs.Vocabulary.{NodeId, A, L, R, Answer}
 use Rattle.protocol.specs.Effects.{Config}
 use Rattle.protocol.specs.Nodes.{NodeState, answer_outcome}
 use Rattle.protocol.specs.Worlds.{World, place, node_at, set_node, change_of, outcome_result, answer_result}

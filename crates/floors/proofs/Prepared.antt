@@ -3,7 +3,7 @@ use Rattle.std.proofs.Common.{◌≡◌, ◌⊎◌, inl, inr, ℕ, ◌<◌, Bool
 use Rattle.xid.specs.Transactions.{TxParts, is_participant}
 use Rattle.ballot.specs.Majority.{is_majority}
 use Rattle.protocol.specs.declared.states.View.TheVariants as views
-use Rattle.protocol.specs.Vocabulary.{NodeId, A, L, R, Event}
+use Rattle.safety.specs.Vocabulary.{NodeId, A, L, R, Event}
 use Rattle.safety.specs.CommitSteps.{committed, aborted}
 use Rattle.safety.specs.Runs.{views_in}
 use Rattle.protocol.specs.Effects.{Config, is_inside}

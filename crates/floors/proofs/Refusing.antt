@@ -6,7 +6,7 @@ use Rattle.xid.specs.declared.codes.XaCode.TheVariants.{DupId, Nota}
 use Rattle.xid.specs.declared.refusals.Refusal.TheVariants.{NoSuch, Forgotten}
 use Rattle.protocol.specs.declared.requests.Request.{Request}
 use Rattle.protocol.specs.declared.requests.Request.TheVariants as requests
-use Rattle.protocol.specs.Vocabulary.{NodeId, R, Action, Start, Put, Del, Get, End, EndFail, Rollback, Code, Refused}
+use Rattle.safety.specs.Vocabulary.{NodeId, R, Action, Start, Put, Del, Get, End, EndFail, Rollback, Code, Refused}
 use Rattle.protocol.specs.Effects.{Config}
 use Rattle.protocol.specs.Nodes.{NodeState, Input, Asked, Fault, Outcome, accepts_input, accepts_request, node_step, answer_outcome}
 use Rattle.protocol.specs.Nodes.{down_answer}

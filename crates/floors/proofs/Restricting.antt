@@ -10,7 +10,7 @@ use Rattle.ballot.specs.declared.slot.Slot.{Slot}
 use Rattle.protocol.specs.Basics.{Fact}
 use Rattle.protocol.specs.declared.requests.Request.TheVariants as requests
 use Rattle.protocol.specs.declared.states.View.TheVariants as views
-use Rattle.protocol.specs.Vocabulary.{NodeId, A, L, R, Action, Row}
+use Rattle.safety.specs.Vocabulary.{NodeId, A, L, R, Action, Row}
 use Rattle.protocol.specs.Acceptors.{on_acceptor_message}
 use Rattle.protocol.specs.Effects.{Config, Effect, no_effect}
 use Rattle.protocol.specs.Facts.{slot, last_ballot, view, bound_branches}

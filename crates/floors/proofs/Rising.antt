@@ -3,7 +3,7 @@ use Rattle.std.proofs.Common.{◌≡◌, ◌⊎◌, inl, inr, ◌∙◌, ℕ, Bo
 use Rattle.std.specs.Prelude.{slice_get}
 use Rattle.std.proofs.lemmas.Bool.{cond_both, cond-true, and_parts, not-true}
 use Rattle.xid.specs.declared.refusals.Refusal.TheVariants.{Down, Busy}
-use Rattle.protocol.specs.Vocabulary.{NodeId, A, L, R, Answer, Done, Refused}
+use Rattle.safety.specs.Vocabulary.{NodeId, A, L, R, Answer, Done, Refused}
 use Rattle.protocol.specs.Effects.{Config}
 use Rattle.protocol.specs.Nodes.{NodeState, empty_memory, Fault, NoFault, NoMemoryBefore, NoMemoryAt, RecordFails}
 use Rattle.protocol.specs.Worlds.{node_at}

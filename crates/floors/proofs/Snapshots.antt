@@ -7,7 +7,7 @@ use Rattle.std.proofs.lemmas.Bool.{cond_both, cond-false}
 use Rattle.xid.specs.Transactions.{TxParts, tx_eq}
 use Rattle.stable_record.specs.declared.fact.FactKind.TheVariants as stored
 use Rattle.protocol.specs.Basics.{Fact}
-use Rattle.protocol.specs.Vocabulary.{Row}
+use Rattle.safety.specs.Vocabulary.{Row}
 use Rattle.protocol.specs.Facts.{Bound, branch_bound_by}
 use Rattle.protocol.specs.Tables.{put_row, with_writes, keys_voted, commit_of, table}
 use Rattle.xid.specs.Places.{Place, is_below}

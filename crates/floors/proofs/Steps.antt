@@ -8,7 +8,7 @@ use Rattle.std.proofs.lemmas.Bool.{cond_both, cond-true, cond-false}
 use Rattle.xid.specs.declared.refusals.Refusal.TheVariants.{NoSuch, Down, Busy}
 use Rattle.protocol.specs.declared.requests.Request.{Request}
 use Rattle.protocol.specs.declared.requests.Request.TheVariants as requests
-use Rattle.protocol.specs.Vocabulary.{NodeId, A, L, R, Outgoing, Done, Refused, Event, Ask, Deliver, Lose, Restart, Compact}
+use Rattle.safety.specs.Vocabulary.{NodeId, A, L, R, Outgoing, Done, Refused, Event, Ask, Deliver, Lose, Restart, Compact}
 use Rattle.protocol.specs.Effects.{Config}
 use Rattle.protocol.specs.Nodes.{NodeState, Input, Asked, Received, Fault, NoMemoryBefore, Outcome, node_step, answer_outcome}
 use Rattle.protocol.specs.Nodes.{restart_outcome, compact_outcome, ReceivedNoise, accepts_input}

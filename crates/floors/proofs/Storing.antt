@@ -8,7 +8,7 @@ use Rattle.std.proofs.lemmas.Bool.{cond_both, cond-false, and_parts, not_from_tr
 use Rattle.ballot.specs.Greatest.{IsIn}
 use Rattle.stable_record.specs.Facts.{fact_tx}
 use Rattle.protocol.specs.Basics.{Fact}
-use Rattle.protocol.specs.Vocabulary.{NodeId, A, L, R, Event}
+use Rattle.safety.specs.Vocabulary.{NodeId, A, L, R, Event}
 use Rattle.safety.specs.Standing.{facts_of, facts_at}
 use Rattle.safety.proofs.World.Outcomes.{step_is}
 use Rattle.protocol.specs.Effects.{Config}

@@ -2,7 +2,7 @@
 use Rattle.std.specs.Prelude.{List, Option}
 use Rattle.protocol.specs.Basics.{Fact}
 use Rattle.protocol.specs.declared.requests.Request.TheVariants.{Call}
-use Rattle.protocol.specs.Vocabulary.{NodeId, R}
+use Rattle.safety.specs.Vocabulary.{NodeId, R}
 use Rattle.protocol.specs.Effects.{Config, Effect}
 use Rattle.protocol.specs.Managers.{stored_votes, on_call}
 use Rattle.protocol.specs.Nodes.{Memory, Input, Asked, of_manager, first_rows, effect_of}

@@ -7,7 +7,7 @@ use Rattle.wire.specs.Messages.{message_tx}
 use Rattle.stable_record.specs.Facts.{fact_tx}
 use Rattle.protocol.specs.declared.requests.Request.{Request}
 use Rattle.protocol.specs.declared.requests.Request.TheVariants as requests
-use Rattle.protocol.specs.Vocabulary.{NodeId, Start, Answer, Done, Code, Refused}
+use Rattle.safety.specs.Vocabulary.{NodeId, Start, Answer, Done, Code, Refused}
 use Rattle.protocol.specs.Effects.{Config}
 use Rattle.protocol.specs.Kept.{are_free_below}
 use Rattle.protocol.specs.Nodes.{NodeState, Input, Asked, Received, ReceivedNoise, Fault, NoMemoryAt, RecordFails, Outcome}

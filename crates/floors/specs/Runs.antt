@@ -6,7 +6,7 @@ use Rattle.xid.specs.Transactions.{TxParts, tx_eq, is_participant}
 use Rattle.wire.specs.Messages.{message_tx}
 use Rattle.protocol.specs.declared.requests.Request.TheVariants as requests
 use Rattle.protocol.specs.declared.states.Standing.TheVariants as standings
-use Rattle.protocol.specs.Vocabulary.{NodeId, A, L, R, Answer, Stands, Event, Ask, Deliver, Lose, Restart, Compact, Timeout, View}
+use Rattle.safety.specs.Vocabulary.{NodeId, A, L, R, Answer, Stands, Event, Ask, Deliver, Lose, Restart, Compact, Timeout, View}
 use Rattle.safety.specs.Runs.{views_in}
 use Rattle.protocol.specs.Effects.{Config}
 use Rattle.protocol.specs.Nodes.{Input, Asked, Received, Fault, NoFault}

@@ -6,7 +6,7 @@ use Rattle.xid.specs.declared.refusals.Refusal.TheVariants.{NoMemory, NoSuch, Do
 use Rattle.protocol.specs.declared.events.Event.TheVariants as events
 use Rattle.protocol.specs.declared.events.Told.{Told}
 use Rattle.protocol.specs.declared.events.Step.{Step}
-use Rattle.protocol.specs.Vocabulary.{NodeId, A, L, R, Answer, Done, Refused, Event, Ask, Deliver, Restart, Change}
+use Rattle.safety.specs.Vocabulary.{NodeId, A, L, R, Answer, Done, Refused, Event, Ask, Deliver, Restart, Change}
 use Rattle.protocol.specs.Effects.{Config}
 use Rattle.protocol.specs.Nodes.{NodeState, Input, Asked, Received, Fault, NoMemoryBefore, NoMemoryAt, RecordFails}
 use Rattle.protocol.specs.Worlds.{World, Datagram, StepResult, if_found, datagram_at, with_mark, node_at, set_node}

@@ -5,7 +5,7 @@ ghost use Rattle.std.specs.Prelude.{◌≡◌, ◌⊎◌, ℕ, ◌<◌, Bool, fa
 ghost use Rattle.xid.specs.Transactions.{TxParts, is_participant};
 ghost use Rattle.xid.specs.declared.transaction.Vote.TheVariants as votes;
 ghost use Rattle.ballot.specs.Majority.{is_majority};
-ghost use Rattle.protocol.specs.Vocabulary.{A, L, R, Stands};
+ghost use Rattle.safety.specs.Vocabulary.{A, L, R, Stands};
 ghost use Rattle.safety.specs.Runs.{views_in};
 ghost use Rattle.safety.specs.Standing.{facts_at};
 ghost use Rattle.protocol.specs.declared.states.Standing.TheVariants as standings;

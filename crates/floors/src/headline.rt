@@ -7,7 +7,7 @@ ghost use Rattle.protocol.specs.declared.requests.Request.TheVariants.{Call};
 ghost use Rattle.xid.specs.Transactions.{TxParts};
 ghost use Rattle.ballot.specs.Greatest.{IsIn};
 ghost use Rattle.protocol.specs.declared.states.View.TheVariants as views;
-ghost use Rattle.protocol.specs.Vocabulary.{NodeId, R, Action, Start, Code, Refused};
+ghost use Rattle.safety.specs.Vocabulary.{NodeId, R, Action, Start, Code, Refused};
 ghost use Rattle.safety.specs.Runs.{views_in};
 ghost use Rattle.protocol.specs.Effects.{Config};
 ghost use Rattle.protocol.specs.Managers.{Branch};

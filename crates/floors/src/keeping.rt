@@ -6,7 +6,7 @@ ghost use Rattle.xid.specs.Transactions.{TxParts};
 ghost use Rattle.stable_record.specs.Facts.{fact_tx};
 ghost use Rattle.stable_record.specs.declared.fact.FactKind.TheVariants as stored;
 ghost use Rattle.protocol.specs.Basics.{Fact};
-ghost use Rattle.protocol.specs.Vocabulary.{NodeId, L, Row};
+ghost use Rattle.safety.specs.Vocabulary.{NodeId, L, Row};
 ghost use Rattle.safety.specs.Standing.{facts_at};
 ghost use Rattle.protocol.specs.Effects.{Config};
 ghost use Rattle.protocol.specs.Nodes.{NodeState, Memory, Input, Fault, all_play, effect_of, in_memory};

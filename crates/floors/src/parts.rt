@@ -8,7 +8,7 @@ ghost use Rattle.wire.specs.declared.message.Kind.{Kind};
 ghost use Rattle.wire.specs.declared.message.Kind.TheVariants as messages;
 ghost use Rattle.ballot.specs.Ballots.{owner_of};
 ghost use Rattle.ballot.specs.Choice.{Report};
-ghost use Rattle.protocol.specs.Vocabulary.{A, L, R};
+ghost use Rattle.safety.specs.Vocabulary.{A, L, R};
 ghost use Rattle.protocol.specs.Facts.{bound_branches, slot, last_ballot};
 ghost use Rattle.protocol.specs.Effects.{Config};
 ghost use Rattle.protocol.specs.Managers.{all_branches};

@@ -4,7 +4,7 @@ ghost use Rattle.std.specs.Prelude.{◌≡◌, ◌≢◌, ℕ, true, None, [], �
 ghost use Rattle.xid.specs.Transactions.{TxParts, is_participant};
 ghost use Rattle.protocol.specs.declared.requests.Request.{Request};
 ghost use Rattle.protocol.specs.declared.states.View.TheVariants as views;
-ghost use Rattle.protocol.specs.Vocabulary.{NodeId, Event, Ask, Deliver, Lose};
+ghost use Rattle.safety.specs.Vocabulary.{NodeId, Event, Ask, Deliver, Lose};
 ghost use Rattle.safety.specs.CommitSteps.{IsConsistent};
 ghost use Rattle.safety.specs.Runs.{IsReachable, views_in};
 ghost use Rattle.safety.specs.Items.{Committed, Commit, Voted};

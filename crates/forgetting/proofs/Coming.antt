@@ -9,7 +9,7 @@ use Rattle.xid.specs.declared.refusals.Refusal.TheVariants.{NoSuch, Damaged}
 use Rattle.stable_record.specs.Facts.{fact_tx}
 use Rattle.stable_record.specs.Frames.{frame_length}
 use Rattle.protocol.specs.Basics.{Fact}
-use Rattle.protocol.specs.Vocabulary.{NodeId, A, L, R, Done, Refused}
+use Rattle.safety.specs.Vocabulary.{NodeId, A, L, R, Done, Refused}
 use Rattle.protocol.specs.Effects.{Config, Effect}
 use Rattle.protocol.specs.Facts.{view, with_fact}
 use Rattle.protocol.specs.Nodes.{NodeState, Memory, empty_memory, Input, Fault, NoFault, NoMemoryBefore, NoMemoryAt, RecordFails}

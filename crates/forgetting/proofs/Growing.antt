@@ -17,7 +17,7 @@ use Rattle.ballot.specs.declared.slot.Slot.{Slot}
 use Rattle.stable_record.specs.Facts.{fact_tx}
 use Rattle.stable_record.specs.declared.fact.FactKind.TheVariants as stored
 use Rattle.protocol.specs.Basics.{Fact}
-use Rattle.protocol.specs.Vocabulary.{NodeId, A, L, R, Row}
+use Rattle.safety.specs.Vocabulary.{NodeId, A, L, R, Row}
 use Rattle.protocol.specs.Acceptors.{plays_at_acceptor}
 use Rattle.protocol.specs.Effects.{Config}
 use Rattle.protocol.specs.Facts.{Bound, ballot_joined, accept_of, slot, ballot_begun, last_ballot, is_prepared_view, is_open_view, is_spent}

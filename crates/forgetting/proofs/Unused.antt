@@ -12,7 +12,7 @@ use Rattle.ballot.specs.Slots.{empty_slot}
 use Rattle.stable_record.specs.Facts.{fact_tx}
 use Rattle.transactions.proofs.First.{first_any}
 use Rattle.protocol.specs.Basics.{Fact}
-use Rattle.protocol.specs.Vocabulary.{NodeId, A, L, R}
+use Rattle.safety.specs.Vocabulary.{NodeId, A, L, R}
 use Rattle.protocol.specs.Effects.{Config}
 use Rattle.protocol.specs.Facts.{slot, last_ballot}
 use Rattle.protocol.specs.Nodes.{NodeState, all_play}

@@ -1,6 +1,6 @@
 //! A node that forgot does what one does that has forgotten nothing, but for what is below its floor.
 ghost use Rattle.std.specs.Prelude.{◌≡◌, ℕ, true, false, [], Option, Some, None};
-ghost use Rattle.protocol.specs.Vocabulary.{NodeId, R};
+ghost use Rattle.safety.specs.Vocabulary.{NodeId, R};
 ghost use Rattle.protocol.specs.Effects.{Config};
 ghost use Rattle.protocol.specs.Nodes.{NodeState, Input, Fault, all_play, restart_outcome, compact_outcome};
 ghost use Rattle.xid.specs.Places.{Place, is_lower};

@@ -7,7 +7,7 @@ ghost use Rattle.ballot.specs.Majority.{is_majority};
 ghost use Rattle.protocol.specs.declared.requests.Request.TheVariants as requests;
 ghost use Rattle.protocol.specs.declared.states.Standing.TheVariants as standings;
 ghost use Rattle.protocol.specs.declared.states.View.TheVariants as views;
-ghost use Rattle.protocol.specs.Vocabulary.{L, R, Stands};
+ghost use Rattle.safety.specs.Vocabulary.{L, R, Stands};
 ghost use Rattle.protocol.specs.Effects.{Config, is_inside};
 ghost use Rattle.protocol.specs.Worlds.{World};
 ghost use Rattle.protocol.specs.Facts.{HasVote};

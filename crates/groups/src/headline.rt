@@ -5,7 +5,7 @@ ghost use Rattle.xid.specs.Transactions.{TxParts, is_participant};
 ghost use Rattle.xid.specs.declared.refusals.Refusal.{Refusal};
 ghost use Rattle.stable_record.specs.Held.{Held};
 ghost use Rattle.stable_record.specs.declared.record.RecordError.{RecordError};
-ghost use Rattle.protocol.specs.Vocabulary.{NodeId, Event};
+ghost use Rattle.safety.specs.Vocabulary.{NodeId, Event};
 ghost use Rattle.protocol.specs.Effects.{Config};
 ghost use Rattle.protocol.specs.Nodes.{NodeState, Input, Fault};
 ghost use Rattle.protocol.specs.TCommit.{IsCommitStep};

@@ -8,7 +8,7 @@ use Rattle.std.specs.Str.{bytes_eq}
 use Rattle.std.proofs.lemmas.Bool.{cond_both}
 use Rattle.xid.specs.Names.{XidParts, xid_eq}
 use Rattle.protocol.specs.Basics.{Act, Touched}
-use Rattle.protocol.specs.Vocabulary.{BranchState, Action, Start, Put, Del, Get, End, EndFail, Rollback}
+use Rattle.safety.specs.Vocabulary.{BranchState, Action, Start, Put, Del, Get, End, EndFail, Rollback}
 use Rattle.protocol.specs.Branches.{BranchView, no_branch}
 use Rattle.protocol.specs.Managers.{Branch, view_named, view_by, last_act}
 use Rattle.branch_table.specs.OneCall.{SameView, view_after_done, new_branch}

@@ -10,8 +10,8 @@ use Rattle.std.proofs.lemmas.List.Sums.{take_while-cons}
 use Rattle.xid.specs.Names.{XidParts, xid_eq}
 use Rattle.xid.specs.Transactions.{TxParts}
 use Rattle.xid.proofs.Deciding.{xid_decides, xid_apart}
-use Rattle.protocol.specs.Vocabulary.{R, BranchState, Event, Answer, Action, Start, Put, Del, Get, End, EndFail, Rollback, Call, Ask, Step}
-use Rattle.protocol.specs.Vocabulary.{Row, Request, Recover, Timeout, A, L}
+use Rattle.safety.specs.Vocabulary.{R, BranchState, Event, Answer, Action, Start, Put, Del, Get, End, EndFail, Rollback, Call, Ask, Step}
+use Rattle.safety.specs.Vocabulary.{Row, Request, Recover, Timeout, A, L}
 use Rattle.protocol.specs.Branches.{is_done, hinders}
 use Rattle.protocol.specs.Effects.{Config}
 use Rattle.protocol.specs.Facts.{bound_branches}

@@ -10,8 +10,8 @@ use Rattle.xid.specs.declared.refusals.Refusal.TheVariants.{NoSuch, NoMemory, Fo
 use Rattle.wire.specs.Decoding.{spells_message}
 use Rattle.wire.specs.Grammar.{spelling}
 use Rattle.protocol.specs.Basics.{Fact}
-use Rattle.protocol.specs.Vocabulary.{NodeId, A, L, R, Event, Ask, Deliver, Lose, Cut, Noise, Tear, Restart, Compact, Request, Answer, Done}
-use Rattle.protocol.specs.Vocabulary.{Refused, Step}
+use Rattle.safety.specs.Vocabulary.{NodeId, A, L, R, Event, Ask, Deliver, Lose, Cut, Noise, Tear, Restart, Compact, Request, Answer, Done}
+use Rattle.safety.specs.Vocabulary.{Refused, Step}
 use Rattle.protocol.specs.Effects.{Config, Effect}
 use Rattle.protocol.specs.Nodes.{Memory, NodeState, new_node, Input, Asked, Received, ReceivedNoise, Fault, NoFault, NoMemoryBefore}
 use Rattle.protocol.specs.Nodes.{NoMemoryAt, RecordFails, accepts_request, down_answer, answer_outcome, effect_of, effect_outcome}

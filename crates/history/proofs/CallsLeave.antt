@@ -12,7 +12,7 @@ use Rattle.xid.proofs.Deciding.{not_true, xid_decides, xid_other}
 use Rattle.stable_record.specs.Facts.{AreAscending}
 use Rattle.protocol.specs.Basics.{Fact, Act}
 use Rattle.protocol.specs.declared.states.BranchState.TheVariants.{Active, Prepared}
-use Rattle.protocol.specs.Vocabulary.{BranchState, Action, Start, Put, Del, Get, End, EndFail, Rollback, Row}
+use Rattle.safety.specs.Vocabulary.{BranchState, Action, Start, Put, Del, Get, End, EndFail, Rollback, Row}
 use Rattle.protocol.specs.Branches.{BranchView, no_branch, hinders, call_answer, is_done}
 use Rattle.protocol.specs.Facts.{Bound, bound_branches, is_spent}
 use Rattle.protocol.specs.Managers.{Branch, all_branches, view_named, is_hindered, branch_after, branches_without, after_call, stored_votes}

@@ -15,7 +15,7 @@ use Rattle.stable_record.specs.Facts.{fact_tx}
 use Rattle.stable_record.specs.declared.fact.FactKind.TheVariants as stored
 use Rattle.protocol.specs.Basics.{Fact}
 use Rattle.protocol.specs.declared.states.View.TheVariants as views
-use Rattle.protocol.specs.Vocabulary.{R, View}
+use Rattle.safety.specs.Vocabulary.{R, View}
 use Rattle.protocol.specs.Facts.{vote_in, is_ended, is_vote_of, is_commit_of, is_abort_of, view, is_prepared_view, is_open_view}
 use Rattle.protocol.specs.Managers.{Branch}
 use Rattle.protocol.specs.Nodes.{Input}

@@ -9,7 +9,7 @@ use Rattle.std.proofs.lemmas.List.{reverse-append, reverse-reverse}
 use Rattle.wire.specs.Decoding.{spells_message}
 use Rattle.wire.specs.Grammar.{spelling}
 use Rattle.xid.specs.declared.refusals.Refusal.TheVariants.{NoSuch, Forged, Down}
-use Rattle.protocol.specs.Vocabulary.{NodeId, Event, Ask, Deliver, Lose, Cut, Noise, Tear, Restart, Compact, Done, Refused, Sent, Step}
+use Rattle.safety.specs.Vocabulary.{NodeId, Event, Ask, Deliver, Lose, Cut, Noise, Tear, Restart, Compact, Done, Refused, Sent, Step}
 use Rattle.protocol.specs.Effects.{Config}
 use Rattle.protocol.specs.Nodes.{NodeState, Input, Asked, Received, ReceivedNoise, Fault, NoMemoryBefore, Outcome, node_step}
 use Rattle.protocol.specs.Nodes.{restart_outcome, compact_outcome}

@@ -16,8 +16,8 @@ use Rattle.wire.specs.declared.items.InstanceAccept.{InstanceAccept}
 use Rattle.wire.specs.Decoding.{spells_message}
 use Rattle.wire.specs.Grammar.{spelling}
 use Rattle.protocol.specs.Basics.{Fact}
-use Rattle.protocol.specs.Vocabulary.{NodeId, A, L, R, Event, Ask, Deliver, Lose, Cut, Noise, Tear, Restart, Compact, Request, Call}
-use Rattle.protocol.specs.Vocabulary.{Recover, Timeout, Answer, Done, Refused, Sent, Step}
+use Rattle.safety.specs.Vocabulary.{NodeId, A, L, R, Event, Ask, Deliver, Lose, Cut, Noise, Tear, Restart, Compact, Request, Call}
+use Rattle.safety.specs.Vocabulary.{Recover, Timeout, Answer, Done, Refused, Sent, Step}
 use Rattle.protocol.specs.Effects.{Config, Effect, is_inside}
 use Rattle.ballot.specs.Ballots.{next_of}
 use Rattle.protocol.specs.Facts.{last_ballot}

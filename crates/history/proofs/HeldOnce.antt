@@ -5,7 +5,7 @@ use Rattle.std.proofs.lemmas.Bool.{false_from_ne_true}
 use Rattle.xid.specs.Names.{XidParts, xid_eq}
 use Rattle.xid.proofs.Deciding.{xid_decides}
 use Rattle.protocol.specs.Basics.{Fact}
-use Rattle.protocol.specs.Vocabulary.{R, Step}
+use Rattle.safety.specs.Vocabulary.{R, Step}
 use Rattle.protocol.specs.Branches.{BranchView, no_branch, is_write}
 use Rattle.protocol.specs.Effects.{Config}
 use Rattle.protocol.specs.Facts.{bound_branches}

@@ -14,7 +14,7 @@ use Rattle.stable_record.specs.Facts.{AreAscending, fact_tx}
 use Rattle.stable_record.specs.declared.fact.FactKind.TheVariants as stored
 use Rattle.protocol.specs.Basics.{Fact, Touched, Act}
 use Rattle.protocol.specs.declared.states.BranchState.TheVariants.{Active, Prepared}
-use Rattle.protocol.specs.Vocabulary.{BranchState, Action, Start, Put, Del, Get, End, EndFail, Rollback, Step, Row}
+use Rattle.safety.specs.Vocabulary.{BranchState, Action, Start, Put, Del, Get, End, EndFail, Rollback, Step, Row}
 use Rattle.protocol.specs.Branches.{BranchView, no_branch, is_done, hinders, rollback_answer}
 use Rattle.protocol.specs.Effects.{Config}
 use Rattle.protocol.specs.Facts.{is_spent, bound_branches}

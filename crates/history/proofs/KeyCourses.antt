@@ -14,7 +14,7 @@ use Rattle.stable_record.specs.Facts.{fact_tx}
 use Rattle.stable_record.specs.declared.fact.FactKind.TheVariants as stored
 use Rattle.protocol.specs.Basics.{Fact, Touched}
 use Rattle.protocol.specs.declared.states.View.TheVariants as views
-use Rattle.protocol.specs.Vocabulary.{View, Action, Start, Put, Del, Get, End, EndFail, Rollback, Step}
+use Rattle.safety.specs.Vocabulary.{View, Action, Start, Put, Del, Get, End, EndFail, Rollback, Step}
 use Rattle.protocol.specs.Branches.{BranchView, is_write, is_done, key_of}
 use Rattle.protocol.specs.Effects.{Config}
 use Rattle.protocol.specs.Facts.{Bound, is_prepared_view, is_open_view, is_vote_of, view}

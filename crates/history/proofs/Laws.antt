@@ -10,7 +10,7 @@ use Rattle.xid.specs.Transactions.{TxParts, is_participant, xid_at}
 use Rattle.xid.specs.declared.refusals.Refusal.TheVariants.{BadTx, NoSuch}
 use Rattle.stable_record.specs.declared.fact.FactKind.TheVariants as stored
 use Rattle.protocol.specs.Basics.{Fact, Touched}
-use Rattle.protocol.specs.Vocabulary.{R, Ask, View, Row, Step, Request, Call, Recover, Timeout, Done, Xids, Stands, Refused}
+use Rattle.safety.specs.Vocabulary.{R, Ask, View, Row, Step, Request, Call, Recover, Timeout, Done, Xids, Stands, Refused}
 use Rattle.protocol.specs.Branches.{BranchView}
 use Rattle.protocol.specs.Effects.{Config, Effect, is_inside, view_standing}
 use Rattle.protocol.specs.Facts.{view, is_spent, bound_branches}

@@ -19,7 +19,7 @@ use Rattle.wire.specs.declared.message.Kind.TheVariants as kinds
 use Rattle.ballot.specs.Ballots.{next_of}
 use Rattle.ballot.specs.Greatest.{IsIn}
 use Rattle.protocol.specs.Basics.{Fact}
-use Rattle.protocol.specs.Vocabulary.{L, R, Status, Request, Timeout, Event, Ask, Deliver, Done, Stands, Refused, Change, Step}
+use Rattle.safety.specs.Vocabulary.{L, R, Status, Request, Timeout, Event, Ask, Deliver, Done, Stands, Refused, Change, Step}
 use Rattle.protocol.specs.Effects.{Config, Effect, is_inside, to, answer_only, no_effect, sends_only, stores, status_standing}
 use Rattle.protocol.specs.LeaderMemory.{Begun, LeaderMemory, StoredBallots, current, is_decided, is_known, status_of, with_met, with_heard}
 use Rattle.protocol.specs.LeaderMemory.{with_all_heard, is_counted, with_begun, is_phase_1b, is_reported, is_proposed, value_to_propose}

@@ -15,8 +15,8 @@ use Rattle.wire.specs.Grammar.{spelling}
 use Rattle.stable_record.specs.Frames.{frame_length}
 use Rattle.ballot.specs.Greatest.{IsIn}
 use Rattle.protocol.specs.Basics.{Fact}
-use Rattle.protocol.specs.Vocabulary.{NodeId, A, L, R, Event, Ask, Deliver, Lose, Cut, Noise, Tear, Restart, Compact, Request, Call}
-use Rattle.protocol.specs.Vocabulary.{Recover, Timeout, Answer, Done, Refused, Change, Sent, Status, Step}
+use Rattle.safety.specs.Vocabulary.{NodeId, A, L, R, Event, Ask, Deliver, Lose, Cut, Noise, Tear, Restart, Compact, Request, Call}
+use Rattle.safety.specs.Vocabulary.{Recover, Timeout, Answer, Done, Refused, Change, Sent, Status, Step}
 use Rattle.protocol.specs.Effects.{Config, Effect}
 use Rattle.protocol.specs.Facts.{last_ballot}
 use Rattle.protocol.specs.LeaderMemory.{LeaderMemory, StoredBallots, current, is_decided, nothing_heard, status_of}

@@ -8,7 +8,7 @@ use Rattle.xid.specs.Transactions.{TxParts, participants}
 use Rattle.wire.specs.Messages.{message_tx}
 use Rattle.wire.specs.declared.message.Kind.{Kind}
 use Rattle.wire.specs.declared.message.Kind.TheVariants.{P1a, B1a}
-use Rattle.protocol.specs.Vocabulary.{NodeId, A, L}
+use Rattle.safety.specs.Vocabulary.{NodeId, A, L}
 use Rattle.protocol.specs.Effects.{Config, receivers, to}
 use Rattle.protocol.specs.LeaderMemory.{Begun}
 use Rattle.protocol.specs.Leaders.{phase_1a}

@@ -2,7 +2,7 @@
 use Rattle.std.specs.Prelude.{◌≡◌, refl, true, false, List, [], ◌∷◌, ◌++◌, map, Some, None}
 use Rattle.xid.specs.declared.transaction.Vote.TheVariants as votes
 use Rattle.wire.specs.declared.message.Kind.TheVariants.{P1b, P2b}
-use Rattle.protocol.specs.Vocabulary.{L, Status, Event, Deliver, Restart, Step}
+use Rattle.safety.specs.Vocabulary.{L, Status, Event, Deliver, Restart, Step}
 use Rattle.protocol.specs.Effects.{Config}
 use Rattle.protocol.specs.LeaderMemory.{is_proposed}
 use Rattle.protocol.proofs.RowWords.{two, one, cluster, with_bundles, well, timeout, deliveries, one_ended, two_ended}

@@ -19,8 +19,8 @@ use Rattle.stable_record.specs.Facts.{fact_tx}
 use Rattle.stable_record.specs.Frames.{frame_length}
 use Rattle.stable_record.specs.declared.fact.FactKind.TheVariants as stored
 use Rattle.protocol.specs.Basics.{Fact, Touched}
-use Rattle.protocol.specs.Vocabulary.{Change, NodeId, A, L, R, Answer, Done, Code, Refused, Event, Ask, Deliver, Lose, Cut, Noise, Tear}
-use Rattle.protocol.specs.Vocabulary.{Restart, Compact, Request, Call, Recover, Timeout, Action}
+use Rattle.safety.specs.Vocabulary.{Change, NodeId, A, L, R, Answer, Done, Code, Refused, Event, Ask, Deliver, Lose, Cut, Noise, Tear}
+use Rattle.safety.specs.Vocabulary.{Restart, Compact, Request, Call, Recover, Timeout, Action}
 use Rattle.protocol.specs.Branches.{is_done}
 use Rattle.protocol.specs.Effects.{Config, Effect, is_inside}
 use Rattle.protocol.specs.Facts.{is_prepared_view, is_open_view, view, vote_in, is_ended, is_spent, with_fact}

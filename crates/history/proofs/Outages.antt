@@ -17,9 +17,9 @@ use Rattle.wire.specs.declared.message.Kind.TheVariants as kinds
 use Rattle.wire.specs.Messages.{message_tx}
 use Rattle.xid.specs.Limits.{most_touched}
 use Rattle.protocol.specs.Basics.{Fact, Touched}
-use Rattle.protocol.specs.Vocabulary.{NodeId, A, L, R, Answer, Done, Code, Refused, Event, Ask, Deliver, Lose, Cut, Noise, Tear, Restart}
-use Rattle.protocol.specs.Vocabulary.{Compact, Request, Call, Recover, Timeout, Action, Start, Put, Del, Get, End, EndFail, Rollback, Row}
-use Rattle.protocol.specs.Vocabulary.{Sent, Step, BranchState}
+use Rattle.safety.specs.Vocabulary.{NodeId, A, L, R, Answer, Done, Code, Refused, Event, Ask, Deliver, Lose, Cut, Noise, Tear, Restart}
+use Rattle.safety.specs.Vocabulary.{Compact, Request, Call, Recover, Timeout, Action, Start, Put, Del, Get, End, EndFail, Rollback, Row}
+use Rattle.safety.specs.Vocabulary.{Sent, Step, BranchState}
 use Rattle.protocol.specs.Branches.{BranchView, by_state, read_of, get_answer, rollback_answer, call_answer}
 use Rattle.protocol.specs.Effects.{Config, Effect, is_inside}
 use Rattle.protocol.specs.Facts.{is_prepared_view, is_open_view, is_spent, vote_in, is_ended, view}

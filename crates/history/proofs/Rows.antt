@@ -9,7 +9,7 @@ use Rattle.std.proofs.lemmas.List.{reverse-append}
 use Rattle.std.proofs.lemmas.List.Sums.{fold-append}
 use Rattle.stable_record.specs.Facts.{AreAscending}
 use Rattle.protocol.specs.Basics.{Act, Touched}
-use Rattle.protocol.specs.Vocabulary.{Action, Put, Del, Row}
+use Rattle.safety.specs.Vocabulary.{Action, Put, Del, Row}
 use Rattle.protocol.specs.Branches.{row_at, value_after}
 use Rattle.protocol.specs.Managers.{act_on}
 use Rattle.protocol.specs.Tables.{with_writes}

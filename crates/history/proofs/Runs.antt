@@ -6,7 +6,7 @@ use Rattle.std.specs.List.{cons_option}
 use Rattle.std.specs.Option.{option_and_then}
 use Rattle.std.proofs.lemmas.List.{append-nil, map-append, reverse-append}
 use Rattle.protocol.specs.Basics.{Fact}
-use Rattle.protocol.specs.Vocabulary.{Change, R, Answer, Event, Step}
+use Rattle.safety.specs.Vocabulary.{Change, R, Answer, Event, Step}
 use Rattle.protocol.specs.Effects.{Config}
 use Rattle.protocol.specs.Nodes.{NodeState, new_node, Fault}
 use Rattle.protocol.specs.Worlds.{World, Occurrence, opening, node_at, step_of, trace, world_after, world_step}

@@ -19,7 +19,7 @@ use Rattle.stable_record.specs.declared.fact.FactKind.TheVariants as stored
 use Rattle.protocol.specs.Basics.{Act, Fact, Touched}
 use Rattle.protocol.specs.declared.states.BranchState.TheVariants.{Active, Idle, RollbackOnly, Prepared}
 use Rattle.protocol.specs.declared.states.View.TheVariants as views
-use Rattle.protocol.specs.Vocabulary.{BranchState, View, Action, Start, Get, Change, Answer, Code, Refused, Event, Row, Step}
+use Rattle.safety.specs.Vocabulary.{BranchState, View, Action, Start, Get, Change, Answer, Code, Refused, Event, Row, Step}
 use Rattle.protocol.specs.Branches.{BranchView, is_write, is_done, hinders, row_at, read_of, get_answer, by_state, key_fits, value_after}
 use Rattle.protocol.specs.Effects.{Config}
 use Rattle.protocol.specs.Facts.{Bound, branch_bound_by, is_prepared_view, bound_branches, is_spent, view}

@@ -13,7 +13,7 @@ use Rattle.stable_record.specs.Facts.{AreAscending}
 use Rattle.stable_record.specs.declared.fact.FactKind.TheVariants as stored
 use Rattle.protocol.specs.Basics.{Fact, Act, Touched}
 use Rattle.protocol.specs.declared.states.View.TheVariants as views
-use Rattle.protocol.specs.Vocabulary.{View, Row, Step}
+use Rattle.safety.specs.Vocabulary.{View, Row, Step}
 use Rattle.protocol.specs.Branches.{BranchView, no_branch, is_write, row_at, value_after}
 use Rattle.protocol.specs.Effects.{Config}
 use Rattle.protocol.specs.Facts.{Bound, branch_bound_by, view}

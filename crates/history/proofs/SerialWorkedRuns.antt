@@ -3,7 +3,7 @@ use Rattle.std.specs.Prelude.{◌≡◌, refl, true, false, ℕ, List, [], ◌�
 use Rattle.xid.specs.Names.{XidParts}
 use Rattle.xid.specs.Transactions.{TxParts}
 use Rattle.protocol.specs.declared.states.View.TheVariants as views
-use Rattle.protocol.specs.Vocabulary.{View, Answer, Value, Done, Event, Deliver, Start, Get, End, Row, Step}
+use Rattle.safety.specs.Vocabulary.{View, Answer, Value, Done, Event, Deliver, Start, Get, End, Row, Step}
 use Rattle.protocol.specs.Effects.{Config}
 use Rattle.protocol.proofs.RowWords.{x, y, z, two, row, cluster, well, call, put, commit, deliveries, ok}
 use Rattle.history.specs.Lines.{history}

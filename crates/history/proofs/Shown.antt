@@ -10,7 +10,7 @@ use Rattle.xid.specs.Transactions.{TxParts, tx_eq, xid_at}
 use Rattle.xid.proofs.Deciding.{xid_decides, xid_self, tx_decides}
 use Rattle.protocol.specs.declared.states.BranchState.TheVariants.{Prepared}
 use Rattle.protocol.specs.declared.states.View.TheVariants as views
-use Rattle.protocol.specs.Vocabulary.{Change, Step}
+use Rattle.safety.specs.Vocabulary.{Change, Step}
 use Rattle.protocol.specs.Branches.{BranchView}
 use Rattle.protocol.specs.Effects.{Config}
 use Rattle.protocol.specs.Facts.{Bound, is_prepared_view, bound_branches}

@@ -4,7 +4,7 @@ use Rattle.std.proofs.Common.{◌≡◌, ◌<◌, ◌∙◌, ℕ, true, not, if�
 use Rattle.std.proofs.lemmas.Bool.{cond_both, both_ways, not-true}
 use Rattle.xid.specs.Transactions.{TxParts}
 use Rattle.xid.specs.declared.refusals.Refusal.TheVariants.{BadTx}
-use Rattle.protocol.specs.Vocabulary.{L, Ask, Request, Status, Stands, Refused, Step}
+use Rattle.safety.specs.Vocabulary.{L, Ask, Request, Status, Stands, Refused, Step}
 use Rattle.protocol.specs.Effects.{Config, Effect, is_inside, status_standing}
 use Rattle.protocol.specs.Facts.{last_ballot}
 use Rattle.protocol.specs.Nodes.{Memory, NodeState, Asked, Fault, NoFault, NoMemoryBefore, NoMemoryAt, RecordFails, effect_of}

@@ -7,7 +7,7 @@ use Rattle.std.specs.Option.{option_map_or}
 use Rattle.std.proofs.lemmas.List.Sums.{take_while-cons}
 use Rattle.xid.specs.Names.{XidParts}
 use Rattle.xid.specs.Transactions.{TxParts}
-use Rattle.protocol.specs.Vocabulary.{Change, Step, Action}
+use Rattle.safety.specs.Vocabulary.{Change, Step, Action}
 use Rattle.safety.proofs.World.Changes.{or_none}
 use Rattle.history.specs.Lines.{change_at, changes_at}
 use Rattle.history.specs.Calls.{is_restart}

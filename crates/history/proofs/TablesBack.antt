@@ -11,7 +11,7 @@ use Rattle.xid.specs.declared.transaction.Vote.TheVariants as votes
 use Rattle.xid.proofs.Deciding.{tx_decides, tx_self}
 use Rattle.stable_record.specs.declared.fact.FactKind.TheVariants as stored
 use Rattle.protocol.specs.Basics.{Fact, Touched}
-use Rattle.protocol.specs.Vocabulary.{Change, Step, Row}
+use Rattle.safety.specs.Vocabulary.{Change, Step, Row}
 use Rattle.protocol.specs.Effects.{Config}
 use Rattle.protocol.specs.Facts.{Bound, branch_bound_by, bound_branches, is_prepared_view}
 use Rattle.protocol.specs.Managers.{insert_xid}

@@ -17,7 +17,7 @@ use Rattle.stable_record.specs.declared.fact.FactKind.TheVariants as stored
 use Rattle.protocol.specs.Basics.{Fact, Touched}
 use Rattle.protocol.specs.declared.states.BranchState.TheVariants.{Prepared}
 use Rattle.protocol.specs.declared.states.View.TheVariants as views
-use Rattle.protocol.specs.Vocabulary.{Change, R, Event, Action, Step, Rollback, Row}
+use Rattle.safety.specs.Vocabulary.{Change, R, Event, Action, Step, Rollback, Row}
 use Rattle.protocol.specs.Branches.{BranchView, no_branch, is_done}
 use Rattle.protocol.specs.Effects.{Config}
 use Rattle.protocol.specs.Facts.{view, is_spent, is_prepared_view}

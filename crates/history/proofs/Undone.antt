@@ -4,8 +4,8 @@ use Rattle.std.proofs.Common.{◌≡◌, ℕ, Bool, false, ◌&&◌, ◌==◌, i
 use Rattle.xid.specs.Names.{XidParts, xid_eq}
 use Rattle.xid.specs.declared.refusals.Refusal.{Refusal}
 use Rattle.xid.specs.declared.codes.XaCode.TheVariants as codes
-use Rattle.protocol.specs.Vocabulary.{A, Action, Answer, Ask, Call, Code, Del, End, EndFail, Event, Get, L, Put, R, Recover, Refused}
-use Rattle.protocol.specs.Vocabulary.{Request, Restart, Rollback, Start, Timeout}
+use Rattle.safety.specs.Vocabulary.{A, Action, Answer, Ask, Call, Code, Del, End, EndFail, Event, Get, L, Put, R, Recover, Refused}
+use Rattle.safety.specs.Vocabulary.{Request, Restart, Rollback, Start, Timeout}
 use Rattle.protocol.specs.Branches.{is_done}
 use Rattle.history.specs.Calls.{call_done, is_restart}
 

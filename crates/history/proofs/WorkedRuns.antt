@@ -5,8 +5,8 @@ use Rattle.xid.specs.declared.codes.XaCode.TheVariants as codes
 use Rattle.xid.specs.declared.refusals.Refusal.TheVariants.{Busy}
 use Rattle.stable_record.specs.declared.fact.Act.TheVariants as acts
 use Rattle.protocol.specs.declared.states.Standing.TheVariants as standings
-use Rattle.protocol.specs.Vocabulary.{L, R, Answer, Code, Value, Xids, Stands, Refused, Event, Ask, Deliver, Tear, Restart, Compact, Action}
-use Rattle.protocol.specs.Vocabulary.{Start, Get, End, Rollback, Step, Recover}
+use Rattle.safety.specs.Vocabulary.{L, R, Answer, Code, Value, Xids, Stands, Refused, Event, Ask, Deliver, Tear, Restart, Compact, Action}
+use Rattle.safety.specs.Vocabulary.{Start, Get, End, Rollback, Step, Recover}
 use Rattle.protocol.specs.Effects.{Config}
 use Rattle.protocol.specs.Nodes.{first_rows}
 use Rattle.protocol.proofs.RowWords.{x, y, z, two, one, other_one, row, cluster, cluster_with_row, well, call, put, recover, view, commit}

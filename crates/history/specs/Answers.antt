@@ -2,7 +2,7 @@
 use Rattle.std.specs.Prelude.{◌≡◌, ◌⊎◌, ℕ, true, false, ◌&&◌, nat_lt, MatchBool, if◌then◌else◌, List, [], ◌∷◌}
 use Rattle.xid.specs.Transactions.{is_participant}
 use Rattle.xid.specs.declared.refusals.Refusal.TheVariants.{BadTx, NoSuch, NoMemory}
-use Rattle.protocol.specs.Vocabulary.{Request, Call, Recover, Timeout, Answer, Done, Xids, Stands, Refused, R, Event, Ask, Step}
+use Rattle.safety.specs.Vocabulary.{Request, Call, Recover, Timeout, Answer, Done, Xids, Stands, Refused, R, Event, Ask, Step}
 use Rattle.protocol.specs.Effects.{Config, is_inside, view_standing}
 use Rattle.protocol.specs.Nodes.{Fault, NoMemoryBefore, NoMemoryAt, Asked, accepts_request, down_answer, first_rows}
 use Rattle.history.specs.Lines.{view_back}

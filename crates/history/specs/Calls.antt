@@ -1,7 +1,7 @@
 -- What a step did to the branches of a resource manager.
 use Rattle.std.specs.Prelude.{ℕ, Bool, false, ◌&&◌, ◌==◌, if◌then◌else◌, Option, Some, None}
 use Rattle.xid.specs.Names.{XidParts, xid_eq}
-use Rattle.protocol.specs.Vocabulary.{R, Event, Ask, Restart, Action, Call, Answer, Done}
+use Rattle.safety.specs.Vocabulary.{R, Event, Ask, Restart, Action, Call, Answer, Done}
 use Rattle.protocol.specs.Branches.{is_done}
 
 -- the call on branch x of resource manager rm that an event is and that was done, if it is one

@@ -2,7 +2,7 @@
 use Rattle.std.specs.Prelude.{ℕ, Bool, false, ◌==◌, if◌then◌else◌, List, [], ◌∷◌, ◌++◌}
 use Rattle.std.specs.Option.{option_map_or}
 use Rattle.wire.specs.declared.message.Kind.{Kind}
-use Rattle.protocol.specs.Vocabulary.{L, NodeId, Event, Deliver, Restart, Answer, Done, Step}
+use Rattle.safety.specs.Vocabulary.{L, NodeId, Event, Deliver, Restart, Answer, Done, Step}
 use Rattle.protocol.specs.PaperItems.{unbundled}
 use Rattle.history.specs.Outages.{sent_back}
 

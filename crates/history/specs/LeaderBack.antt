@@ -11,7 +11,7 @@ use Rattle.xid.specs.declared.transaction.Vote.TheVariants.{Prepared, Aborted}
 use Rattle.wire.specs.Messages.{message_tx}
 use Rattle.wire.specs.declared.message.Kind.{Kind}
 use Rattle.wire.specs.declared.message.Kind.TheVariants.{P1a, P1b, P2a, P2b, B1a, B1b, B2b}
-use Rattle.protocol.specs.Vocabulary.{L, Status, Request, Timeout, Event, Ask, Deliver, Answer, Done, Stands, Refused, Sent, Step}
+use Rattle.safety.specs.Vocabulary.{L, Status, Request, Timeout, Event, Ask, Deliver, Answer, Done, Stands, Refused, Sent, Step}
 use Rattle.protocol.specs.Effects.{Config, is_inside, status_standing}
 use Rattle.protocol.specs.LeaderMemory.{Begun, StoredBallots, is_counted, is_decided, is_phase_1b}
 use Rattle.protocol.specs.Nodes.{is_message_inside}

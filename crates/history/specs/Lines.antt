@@ -6,7 +6,7 @@ use Rattle.xid.specs.Names.{XidParts, xid_eq}
 use Rattle.xid.specs.Transactions.{TxParts, tx_eq, xid_at}
 use Rattle.stable_record.specs.Facts.{fact_tx}
 use Rattle.protocol.specs.Basics.{Fact}
-use Rattle.protocol.specs.Vocabulary.{Change, Step, View}
+use Rattle.safety.specs.Vocabulary.{Change, Step, View}
 use Rattle.protocol.specs.Effects.{Config}
 use Rattle.protocol.specs.Worlds.{Occurrence, opening, trace}
 

@@ -7,7 +7,7 @@ use Rattle.std.specs.Str.{bytes_eq}
 use Rattle.xid.specs.Names.{XidParts, xid_eq}
 use Rattle.xid.specs.Transactions.{TxParts, tx_eq, xid_at}
 use Rattle.protocol.specs.Basics.{Act, Touched}
-use Rattle.protocol.specs.Vocabulary.{BranchState, Action, Start, Put, Del, End, EndFail, Rollback, R, Event, Ask, Call, Answer, Row, Step}
+use Rattle.safety.specs.Vocabulary.{BranchState, Action, Start, Put, Del, End, EndFail, Rollback, R, Event, Ask, Call, Answer, Row, Step}
 use Rattle.protocol.specs.Branches.{BranchView, hinders, key_of}
 use Rattle.protocol.specs.Facts.{is_prepared_view}
 use Rattle.protocol.specs.Managers.{named_answer}

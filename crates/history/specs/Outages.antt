@@ -3,7 +3,7 @@ use Rattle.std.specs.Prelude.{ℕ, Bool, true, false, ◌&&◌, ◌||◌, ◌==�
 use Rattle.std.specs.List.{flat_map}
 use Rattle.std.specs.Option.{option_map_or}
 use Rattle.xid.specs.declared.refusals.Refusal.TheVariants.{RecordFault, NoMemory}
-use Rattle.protocol.specs.Vocabulary.{R, NodeId, Event, Ask, Deliver, Cut, Noise, Restart, Compact, Answer, Refused, Sent, Step}
+use Rattle.safety.specs.Vocabulary.{R, NodeId, Event, Ask, Deliver, Cut, Noise, Restart, Compact, Answer, Refused, Sent, Step}
 use Rattle.history.specs.Calls.{is_restart}
 
 -- the datagrams that steps sent, in the order of the steps

@@ -5,7 +5,7 @@ use Rattle.std.specs.List.{list_any}
 use Rattle.std.specs.Option.{option_map_or, option_and_then}
 use Rattle.xid.specs.Names.{XidParts}
 use Rattle.xid.specs.Transactions.{TxParts, tx_eq, xid_at}
-use Rattle.protocol.specs.Vocabulary.{Row, Step}
+use Rattle.safety.specs.Vocabulary.{Row, Step}
 use Rattle.protocol.specs.Branches.{BranchView, no_branch, is_write, row_at, value_after}
 use Rattle.protocol.specs.Tables.{put_row, with_writes}
 use Rattle.history.specs.Lines.{view_back}

@@ -5,7 +5,7 @@ use Rattle.std.specs.Option.{option_map_or}
 use Rattle.xid.specs.Names.{XidParts}
 use Rattle.xid.specs.Transactions.{TxParts, xid_at}
 use Rattle.protocol.specs.Basics.{Touched}
-use Rattle.protocol.specs.Vocabulary.{Action, Row, View, Change, Step}
+use Rattle.safety.specs.Vocabulary.{Action, Row, View, Change, Step}
 use Rattle.protocol.specs.Facts.{is_prepared_view}
 use Rattle.protocol.specs.Managers.{insert_xid}
 use Rattle.protocol.specs.Tables.{put_row, with_writes}

@@ -1,7 +1,7 @@
 //! Branches and answers: those of a resource manager that is up are the ones looked back at.
 ghost use Rattle.std.specs.Prelude.{◌≡◌, ◌≢◌, ℕ, List, true, false, Some};
 ghost use Rattle.xid.specs.Names.{XidParts};
-ghost use Rattle.protocol.specs.Vocabulary.{R, Ask, Request};
+ghost use Rattle.safety.specs.Vocabulary.{R, Ask, Request};
 ghost use Rattle.protocol.specs.Branches.{is_write};
 ghost use Rattle.protocol.specs.Effects.{Config};
 ghost use Rattle.protocol.specs.Facts.{bound_branches};

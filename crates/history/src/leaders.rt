@@ -3,7 +3,7 @@ ghost use Rattle.std.specs.Prelude.{◌≡◌, ◌<◌, ℕ, List, Some, true};
 ghost use Rattle.std.specs.List.{list_any};
 ghost use Rattle.xid.specs.Transactions.{TxParts, tx_eq};
 ghost use Rattle.wire.specs.declared.message.Kind.{Kind};
-ghost use Rattle.protocol.specs.Vocabulary.{L, Ask, Request};
+ghost use Rattle.safety.specs.Vocabulary.{L, Ask, Request};
 ghost use Rattle.protocol.specs.Effects.{Config};
 ghost use Rattle.protocol.specs.Facts.{last_ballot};
 ghost use Rattle.protocol.specs.LeaderMemory.{current, status_of};

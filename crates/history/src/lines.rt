@@ -2,7 +2,7 @@
 ghost use Rattle.std.specs.Prelude.{◌≡◌, ℕ, List, map};
 ghost use Rattle.xid.specs.Names.{XidParts};
 ghost use Rattle.xid.specs.Transactions.{TxParts};
-ghost use Rattle.protocol.specs.Vocabulary.{R};
+ghost use Rattle.safety.specs.Vocabulary.{R};
 ghost use Rattle.protocol.specs.Effects.{Config};
 ghost use Rattle.protocol.specs.Facts.{view, is_spent};
 ghost use Rattle.protocol.specs.Worlds.{Occurrence, opening, trace, world_after, numbered};

@@ -3,7 +3,7 @@ ghost use Rattle.std.specs.Prelude.{◌≡◌, ◌≢◌, ℕ, List, ◌∷◌, 
 ghost use Rattle.std.specs.List.{list_any};
 ghost use Rattle.xid.specs.Names.{XidParts};
 ghost use Rattle.xid.specs.Transactions.{TxParts, xid_at};
-ghost use Rattle.protocol.specs.Vocabulary.{R, Get, Step};
+ghost use Rattle.safety.specs.Vocabulary.{R, Get, Step};
 ghost use Rattle.protocol.specs.Branches.{get_answer};
 ghost use Rattle.protocol.specs.Effects.{Config};
 ghost use Rattle.protocol.specs.Nodes.{NodeState, first_rows};

@@ -4,7 +4,7 @@ ghost use Rattle.xid.specs.Names.{XidParts};
 ghost use Rattle.xid.specs.Transactions.{TxParts, xid_at};
 ghost use Rattle.stable_record.specs.declared.fact.FactKind.TheVariants as stored;
 ghost use Rattle.protocol.specs.Basics.{Touched};
-ghost use Rattle.protocol.specs.Vocabulary.{R};
+ghost use Rattle.safety.specs.Vocabulary.{R};
 ghost use Rattle.protocol.specs.Effects.{Config};
 ghost use Rattle.protocol.specs.Managers.{act_on, view_named};
 ghost use Rattle.protocol.specs.Nodes.{NodeState, first_rows};

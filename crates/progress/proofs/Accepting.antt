@@ -15,7 +15,7 @@ use Rattle.ballot.specs.declared.slot.Slot.{Slot}
 use Rattle.ballot.specs.Greatest.{IsIn}
 use Rattle.stable_record.specs.declared.fact.FactKind.TheVariants as stored
 use Rattle.protocol.specs.Basics.{Fact}
-use Rattle.protocol.specs.Vocabulary.{L, NodeId, Outgoing, Leaders}
+use Rattle.safety.specs.Vocabulary.{L, NodeId, Outgoing, Leaders}
 use Rattle.protocol.specs.Acceptors.{is_accepted, report_after, accept_item, accept_messages, on_2a}
 use Rattle.protocol.specs.Effects.{Config, Effect, is_inside, to}
 use Rattle.protocol.specs.Facts.{slot, with_fact, vote_eq}

@@ -11,7 +11,7 @@ use Rattle.wire.specs.declared.message.Kind.TheVariants as kinds
 use Rattle.stable_record.specs.declared.fact.FactKind.TheVariants as stored
 use Rattle.ballot.specs.Greatest.{IsIn}
 use Rattle.protocol.specs.Basics.{Fact}
-use Rattle.protocol.specs.Vocabulary.{NodeId, L, R, View, Refused, Stands as answers, Answer, Status}
+use Rattle.safety.specs.Vocabulary.{NodeId, L, R, View, Refused, Stands as answers, Answer, Status}
 use Rattle.safety.specs.Runs.{IsReachable, views_in}
 use Rattle.safety.specs.Standing.{Stands, setting, facts_at, sent_in}
 use Rattle.safety.specs.Items.{Item, Commit, Abort, IsView}

@@ -6,7 +6,7 @@ use Rattle.wire.specs.declared.message.Kind.TheVariants as kinds
 use Rattle.ballot.specs.Ballots.{owner_of}
 use Rattle.ballot.specs.Greatest.{IsIn}
 use Rattle.protocol.specs.Basics.{Fact}
-use Rattle.protocol.specs.Vocabulary.{A, L}
+use Rattle.safety.specs.Vocabulary.{A, L}
 use Rattle.protocol.specs.Acceptors.{on_acceptor_message}
 use Rattle.protocol.specs.Effects.{Config, Effect, is_inside}
 use Rattle.protocol.specs.Facts.{slot, with_fact}

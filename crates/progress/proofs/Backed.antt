@@ -6,7 +6,7 @@ use Rattle.std.specs.List.{slice_set}
 use Rattle.std.specs.Option.{option_and_then, option_map_or}
 use Rattle.ballot.specs.Greatest.{IsIn}
 use Rattle.protocol.specs.Basics.{Fact}
-use Rattle.protocol.specs.Vocabulary.{NodeId, Event}
+use Rattle.safety.specs.Vocabulary.{NodeId, Event}
 use Rattle.safety.specs.Runs.{IsReachable, After}
 use Rattle.safety.specs.Standing.{facts_at, facts_of}
 use Rattle.safety.proofs.World.Reachable as proved

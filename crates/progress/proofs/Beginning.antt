@@ -14,7 +14,7 @@ use Rattle.ballot.specs.Ballots.{owner_of, next_of}
 use Rattle.ballot.specs.Greatest.{IsIn}
 use Rattle.ballot.proofs.Turns.{next_is}
 use Rattle.stable_record.specs.declared.fact.FactKind.TheVariants as stored
-use Rattle.protocol.specs.Vocabulary.{A, NodeId, Outgoing, Acceptors, Managers, Refused}
+use Rattle.safety.specs.Vocabulary.{A, NodeId, Outgoing, Acceptors, Managers, Refused}
 use Rattle.protocol.specs.Effects.{Config, Effect, answer_only, sends_only, stores, to, is_inside}
 use Rattle.protocol.specs.Facts.{instance_eq}
 use Rattle.protocol.specs.LeaderMemory.{LeaderMemory, StoredBallots, is_proposed, with_begun, with_met, status_of}

@@ -6,7 +6,7 @@ use Rattle.xid.specs.declared.transaction.Vote.{Vote}
 use Rattle.ballot.specs.Greatest.{IsIn}
 use Rattle.ballot.specs.Majority.{is_majority}
 use Rattle.protocol.specs.Basics.{Fact}
-use Rattle.protocol.specs.Vocabulary.{NodeId, L}
+use Rattle.safety.specs.Vocabulary.{NodeId, L}
 use Rattle.protocol.specs.Effects.{Config, Effect}
 use Rattle.protocol.specs.Facts.{last_ballot, with_fact}
 use Rattle.protocol.specs.LeaderMemory.{LeaderMemory, status_of}

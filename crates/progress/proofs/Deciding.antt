@@ -7,7 +7,7 @@ use Rattle.xid.specs.declared.refusals.Refusal.TheVariants.{BadTx}
 use Rattle.ballot.specs.Ballots.{next_of}
 use Rattle.ballot.specs.Greatest.{IsIn}
 use Rattle.ballot.specs.Majority.{is_majority}
-use Rattle.protocol.specs.Vocabulary.{NodeId, L, Answer, Stands, Refused, Status}
+use Rattle.safety.specs.Vocabulary.{NodeId, L, Answer, Stands, Refused, Status}
 use Rattle.progress.proofs.Backed.{IsBacked}
 use Rattle.safety.proofs.Facts.{participates}
 use Rattle.safety.specs.Standing.{facts_of}

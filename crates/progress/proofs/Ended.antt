@@ -11,7 +11,7 @@ use Rattle.stable_record.specs.declared.fact.FactKind.TheVariants as stored
 use Rattle.ballot.specs.Ballots.{next_of}
 use Rattle.ballot.specs.Greatest.{IsIn}
 use Rattle.ballot.specs.Majority.{is_majority}
-use Rattle.protocol.specs.Vocabulary.{NodeId, A, L, R, View, Outgoing, Managers, Refused, Stands as answers, Status, Timeout}
+use Rattle.safety.specs.Vocabulary.{NodeId, A, L, R, View, Outgoing, Managers, Refused, Stands as answers, Status, Timeout}
 use Rattle.safety.specs.CommitSteps.{committed, aborted}
 use Rattle.progress.proofs.Backed.{IsBacked}
 use Rattle.safety.proofs.Facts.{participates}

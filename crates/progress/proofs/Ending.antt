@@ -7,7 +7,7 @@ use Rattle.wire.specs.declared.message.Kind.{Kind}
 use Rattle.stable_record.specs.Frames.{frame_length}
 use Rattle.ballot.specs.Greatest.{IsIn}
 use Rattle.protocol.specs.Basics.{Fact}
-use Rattle.protocol.specs.Vocabulary.{NodeId, R, View, Outgoing}
+use Rattle.safety.specs.Vocabulary.{NodeId, R, View, Outgoing}
 use Rattle.safety.specs.Runs.{views_in}
 use Rattle.progress.proofs.Backed.{IsBacked}
 use Rattle.safety.specs.Standing.{facts_at, facts_of}

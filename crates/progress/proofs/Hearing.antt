@@ -11,7 +11,7 @@ use Rattle.wire.specs.declared.message.Kind.{Kind}
 use Rattle.wire.specs.declared.message.Kind.TheVariants.{P1b, P2a}
 use Rattle.ballot.specs.Choice.{Report}
 use Rattle.ballot.specs.Greatest.{IsIn}
-use Rattle.protocol.specs.Vocabulary.{A, NodeId, Outgoing, Acceptors}
+use Rattle.safety.specs.Vocabulary.{A, NodeId, Outgoing, Acceptors}
 use Rattle.protocol.specs.Effects.{Config, Effect, no_effect, to}
 use Rattle.protocol.specs.Facts.{instance_eq}
 use Rattle.protocol.specs.LeaderMemory.{LeaderMemory, StoredBallots, Begun, is_report_of, has_reported, is_reported, value_to_propose}

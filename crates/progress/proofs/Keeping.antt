@@ -6,7 +6,7 @@ use Rattle.xid.specs.Transactions.{TxParts, tx_eq}
 use Rattle.xid.specs.declared.refusals.Refusal.TheVariants.{Damaged}
 use Rattle.ballot.specs.Greatest.{IsIn}
 use Rattle.protocol.specs.Basics.{Fact}
-use Rattle.protocol.specs.Vocabulary.{NodeId, Event, Ask, Deliver, Restart, Timeout, Done, Refused}
+use Rattle.safety.specs.Vocabulary.{NodeId, Event, Ask, Deliver, Restart, Timeout, Done, Refused}
 use Rattle.safety.specs.Standing.{facts_at, facts_of}
 use Rattle.safety.proofs.World.Growth.{same_node}
 use Rattle.safety.proofs.World.NodePlaces.{node_there, node_elsewhere}

@@ -9,7 +9,7 @@ use Rattle.ballot.specs.Greatest.{IsIn}
 use Rattle.ballot.specs.Majority.{IsMajority, is_majority, count}
 use Rattle.ballot.proofs.Majorities.{majorities_meet}
 use Rattle.protocol.specs.Basics.{Fact}
-use Rattle.protocol.specs.Vocabulary.{NodeId, A, L, R, Stands as answers}
+use Rattle.safety.specs.Vocabulary.{NodeId, A, L, R, Stands as answers}
 use Rattle.safety.specs.Invariant.{Invariant}
 use Rattle.safety.specs.Items.{Vote, Prepared, Aborted, Item, Accepted, Voted, P1b, P2a, Setting, IsDecided, IsReportOfAccept, IsCovered}
 use Rattle.safety.specs.Items as items

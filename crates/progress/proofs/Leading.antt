@@ -4,7 +4,7 @@ use Rattle.std.specs.Option.{option_map_or}
 use Rattle.std.proofs.lemmas.Bool.{and_from, and_parts}
 use Rattle.xid.specs.Transactions.{TxParts}
 use Rattle.ballot.specs.Greatest.{IsIn}
-use Rattle.protocol.specs.Vocabulary.{NodeId, Event, Ask, Deliver, Restart, Outgoing}
+use Rattle.safety.specs.Vocabulary.{NodeId, Event, Ask, Deliver, Restart, Outgoing}
 use Rattle.protocol.specs.Effects.{Config}
 use Rattle.protocol.specs.Nodes.{NodeState, Input, Asked, Received, NoFault, node_step, restart_outcome}
 use Rattle.protocol.specs.Worlds.{World, Datagram, node_at, at_node, if_found, outcome_result, datagram_at, mark_at, with_mark}

@@ -3,7 +3,7 @@ use Rattle.std.proofs.Common.{◌≡◌, inl, inr, false, ℕ, zero, suc, List, 
 use Rattle.std.specs.List.{flat_map}
 use Rattle.std.proofs.lemmas.List.{map-append}
 use Rattle.wire.specs.Messages.{message_tx}
-use Rattle.protocol.specs.Vocabulary.{Outgoing, NodeId}
+use Rattle.safety.specs.Vocabulary.{Outgoing, NodeId}
 use Rattle.protocol.specs.Effects.{Config, receivers}
 use Rattle.protocol.specs.Worlds.{datagrams_of, Datagram, datagram_at, mark_at}
 use Rattle.protocol.proofs.Lists.{IsIn-join, IsIn-map}

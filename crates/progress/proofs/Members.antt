@@ -5,7 +5,7 @@ use Rattle.std.specs.List.{flat_map, range_with_len}
 use Rattle.xid.specs.Transactions.{TxParts, participants}
 use Rattle.ballot.specs.Greatest.{IsIn}
 use Rattle.protocol.specs.Basics.{Fact}
-use Rattle.protocol.specs.Vocabulary.{A, L}
+use Rattle.safety.specs.Vocabulary.{A, L}
 use Rattle.protocol.specs.Effects.{Config}
 use Rattle.protocol.specs.Facts.{slot, last_ballot}
 use Rattle.protocol.specs.LeaderMemory.{LeaderMemory, nothing_heard, status_of}

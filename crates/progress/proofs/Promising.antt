@@ -10,7 +10,7 @@ use Rattle.ballot.specs.Ballots.{owner_of}
 use Rattle.ballot.specs.Greatest.{IsIn}
 use Rattle.stable_record.specs.declared.fact.FactKind.TheVariants as stored
 use Rattle.protocol.specs.Basics.{Fact}
-use Rattle.protocol.specs.Vocabulary.{L, Node}
+use Rattle.safety.specs.Vocabulary.{L, Node}
 use Rattle.protocol.specs.Acceptors.{reports_below, is_some_below, on_acceptor_message}
 use Rattle.protocol.specs.Effects.{Config, Effect, is_inside, no_effect, stores, to}
 use Rattle.protocol.specs.Facts.{ballot_joined, slot, with_fact}

@@ -5,7 +5,7 @@ use Rattle.xid.specs.Transactions.{TxParts, participants}
 use Rattle.ballot.specs.Greatest.{IsIn}
 use Rattle.ballot.specs.Majority.{is_majority}
 use Rattle.protocol.specs.Basics.{Fact}
-use Rattle.protocol.specs.Vocabulary.{NodeId, A, L}
+use Rattle.safety.specs.Vocabulary.{NodeId, A, L}
 use Rattle.protocol.specs.Effects.{Config, Effect}
 use Rattle.protocol.specs.Facts.{last_ballot, with_fact}
 use Rattle.protocol.specs.LeaderMemory.{LeaderMemory, has_reported, is_reported, is_proposed, status_of}

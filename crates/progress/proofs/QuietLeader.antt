@@ -7,7 +7,7 @@ use Rattle.stable_record.specs.declared.fact.FactKind.TheVariants as stored
 use Rattle.stable_record.specs.Frames.{frame_length}
 use Rattle.ballot.specs.Ballots.{next_of}
 use Rattle.protocol.specs.Basics.{Fact}
-use Rattle.protocol.specs.Vocabulary.{NodeId, A, L}
+use Rattle.safety.specs.Vocabulary.{NodeId, A, L}
 use Rattle.safety.proofs.Leader.Memory.{last_ballot-of_new}
 use Rattle.progress.proofs.Backed.{IsBacked}
 use Rattle.safety.specs.Standing.{facts_at, facts_of}

@@ -6,7 +6,7 @@ use Rattle.xid.specs.Transactions.{TxParts, participants}
 use Rattle.stable_record.specs.Frames.{frame_length}
 use Rattle.ballot.specs.Greatest.{IsIn}
 use Rattle.protocol.specs.Basics.{Fact}
-use Rattle.protocol.specs.Vocabulary.{NodeId, A, L}
+use Rattle.safety.specs.Vocabulary.{NodeId, A, L}
 use Rattle.progress.proofs.Backed.{IsBacked}
 use Rattle.safety.specs.Standing.{facts_at, facts_of}
 use Rattle.protocol.specs.Effects.{Config, is_inside}

@@ -7,7 +7,7 @@ use Rattle.stable_record.specs.declared.fact.FactKind.TheVariants as stored
 use Rattle.ballot.specs.Ballots.{next_of}
 use Rattle.ballot.specs.Greatest.{IsIn}
 use Rattle.protocol.specs.Basics.{Fact}
-use Rattle.protocol.specs.Vocabulary.{NodeId, A, L}
+use Rattle.safety.specs.Vocabulary.{NodeId, A, L}
 use Rattle.safety.proofs.Leader.Memory.{last_ballot-of_new}
 use Rattle.progress.proofs.Backed.{IsBacked}
 use Rattle.protocol.specs.Effects.{Config, Effect, is_inside, stores}

@@ -8,7 +8,7 @@ use Rattle.wire.specs.declared.message.Kind.TheVariants.{P2a}
 use Rattle.ballot.specs.Ballots.{owner_of}
 use Rattle.ballot.specs.Greatest.{IsIn}
 use Rattle.ballot.specs.Majority.{is_majority}
-use Rattle.protocol.specs.Vocabulary.{NodeId, A}
+use Rattle.safety.specs.Vocabulary.{NodeId, A}
 use Rattle.protocol.specs.Effects.{Config, is_inside}
 use Rattle.protocol.specs.LeaderMemory.{is_proposed}
 use Rattle.protocol.specs.Worlds.{World}

@@ -10,7 +10,7 @@ use Rattle.wire.specs.declared.message.Kind.{Kind}
 use Rattle.ballot.specs.Greatest.{IsIn}
 use Rattle.xid.specs.declared.refusals.Refusal.TheVariants.{NoSuch, Damaged}
 use Rattle.protocol.specs.Basics.{Fact}
-use Rattle.protocol.specs.Vocabulary.{NodeId, Outgoing, Event, Ask, Deliver, Restart, Request, Timeout, Done, Refused}
+use Rattle.safety.specs.Vocabulary.{NodeId, Outgoing, Event, Ask, Deliver, Restart, Request, Timeout, Done, Refused}
 use Rattle.protocol.specs.Effects.{Config, Effect, no_effect}
 use Rattle.protocol.specs.Facts.{with_fact}
 use Rattle.protocol.specs.Nodes.{NodeState, Memory, empty_memory, Input, Asked, Received, NoFault, Outcome, node_step, effect_of}

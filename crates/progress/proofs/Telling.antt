@@ -13,7 +13,7 @@ use Rattle.wire.specs.declared.message.Kind.TheVariants.{P2b}
 use Rattle.ballot.specs.Greatest.{IsIn}
 use Rattle.ballot.specs.Majority.{count, is_majority}
 use Rattle.protocol.specs.declared.states.Status.TheVariants as statuses
-use Rattle.protocol.specs.Vocabulary.{Managers}
+use Rattle.safety.specs.Vocabulary.{Managers}
 use Rattle.protocol.specs.Effects.{Config, Effect, no_effect, sends_only}
 use Rattle.protocol.specs.Facts.{instance_eq, vote_eq}
 use Rattle.protocol.specs.LeaderMemory.{LeaderMemory, StoredBallots, is_accept_of, ballot_told, is_decided, is_known, with_met}

@@ -7,7 +7,7 @@ use Rattle.wire.specs.declared.message.Kind.TheVariants.{P2a}
 use Rattle.ballot.specs.Choice.{Report}
 use Rattle.ballot.specs.Greatest.{IsIn}
 use Rattle.protocol.specs.Basics.{Fact}
-use Rattle.protocol.specs.Vocabulary.{NodeId, A, L, Outgoing}
+use Rattle.safety.specs.Vocabulary.{NodeId, A, L, Outgoing}
 use Rattle.safety.specs.Standing.{facts_at, facts_of}
 use Rattle.protocol.specs.Acceptors.{report_after, on_2a}
 use Rattle.protocol.specs.Effects.{Config, Effect, is_inside}

@@ -4,7 +4,7 @@ use Rattle.xid.specs.Transactions.{TxParts, is_participant}
 use Rattle.protocol.specs.declared.requests.Request.TheVariants as requests
 use Rattle.protocol.specs.declared.states.Standing.TheVariants as standings
 use Rattle.ballot.specs.Majority.{is_majority}
-use Rattle.protocol.specs.Vocabulary.{A, L, Answer, Stands, Ask, View}
+use Rattle.safety.specs.Vocabulary.{A, L, Answer, Stands, Ask, View}
 use Rattle.protocol.specs.Effects.{Config}
 use Rattle.protocol.specs.Facts.{slot, last_ballot}
 use Rattle.protocol.specs.Nodes.{NoFault}

@@ -2,7 +2,7 @@
 use Rattle.std.specs.Prelude.{◌≡◌, ℕ, Bool, true, false, ◌&&◌, ◌==◌, if◌then◌else◌, List, [], ◌∷◌, map, Option, Some, None}
 use Rattle.std.specs.Option.{option_map, option_map_or}
 use Rattle.xid.specs.Transactions.{TxParts, tx_eq, is_participant}
-use Rattle.protocol.specs.Vocabulary.{NodeId, A, L, R, Event, Ask, Deliver, Restart, Timeout}
+use Rattle.safety.specs.Vocabulary.{NodeId, A, L, R, Event, Ask, Deliver, Restart, Timeout}
 use Rattle.protocol.specs.Effects.{Config}
 use Rattle.protocol.specs.Nodes.{NoFault}
 use Rattle.protocol.specs.Worlds.{World, Occurrence, datagram_at, world_step, world_after}

@@ -20,8 +20,8 @@ use Rattle.stable_record.specs.declared.fact.FactKind.{FactKind as Fact}
 use Rattle.protocol.specs.declared.answers.Answer.TheVariants.{Code}
 use Rattle.protocol.specs.declared.events.Sent.{Sent}
 use Rattle.protocol.specs.declared.requests.Request.TheVariants as requests
-use Rattle.protocol.specs.Vocabulary.{A, L, R, Action, Answer, Ask, Change, Compact, Cut, Deliver, Done, Event, Hear, Lose, NodeId, Noise}
-use Rattle.protocol.specs.Vocabulary.{Outgoing, Raise, Refused, Replace, Request, Restart, Start, Step, Tear}
+use Rattle.safety.specs.Vocabulary.{A, L, R, Action, Answer, Ask, Change, Compact, Cut, Deliver, Done, Event, Hear, Lose, NodeId, Noise}
+use Rattle.safety.specs.Vocabulary.{Outgoing, Raise, Refused, Replace, Request, Restart, Start, Step, Tear}
 use Rattle.protocol.specs.Effects.{Config, receivers}
 use Rattle.protocol.specs.Facts.{view}
 use Rattle.protocol.specs.Nodes.{NodeState, Input, Asked, Received, ReceivedNoise, Fault, NoMemoryBefore, Outcome, accepts_input}

@@ -8,7 +8,7 @@ use Rattle.xid.specs.Transactions.{TxParts, is_participant, participants}
 use Rattle.xid.proofs.Deciding.{xid_decides}
 use Rattle.protocol.specs.declared.answers.Answer.TheVariants.{NoValue, Value}
 use Rattle.protocol.specs.declared.states.View.{View}
-use Rattle.protocol.specs.Vocabulary.{Action, Answer, Ask, Call, Change, Event, Get, R, Row, Step}
+use Rattle.safety.specs.Vocabulary.{Action, Answer, Ask, Call, Change, Event, Get, R, Row, Step}
 use Rattle.protocol.specs.Tables.{with_writes}
 use Rattle.history.specs.Calls.{call_done}
 use Rattle.history.specs.Lines.{change_here, view_back}

@@ -4,7 +4,7 @@ use Rattle.std.proofs.lemmas.Bool.{cond_both, eq-eqb, eqb-true}
 use Rattle.xid.specs.Places.{Place, is_lower}
 use Rattle.xid.proofs.Places.{not_back, not_lower, not_lower_self}
 use Rattle.protocol.specs.declared.events.Told.{Told}
-use Rattle.protocol.specs.Vocabulary.{A, L, NodeId, R}
+use Rattle.safety.specs.Vocabulary.{A, L, NodeId, R}
 use Rattle.floors.specs.Worlds.{Notice, higher, least_of, lower, told_with}
 use Rattle.floors.proofs.Order.{higher_bound, lower_first, lower_second}
 use Rattle.audit.specs.Floors as audit

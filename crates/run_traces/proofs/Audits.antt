@@ -6,7 +6,7 @@ use Rattle.std.specs.Prelude.{◌==◌, ◌≢◌, fold}
 use Rattle.std.specs.List.{All, AllByRecursion, AllPairs, range_with_len}
 use Rattle.std.proofs.lemmas.Bool.{and_from, both_ways, eqb-true, ne_eqb}
 use Rattle.std.proofs.lemmas.List.Elements.{recursion_from_All}
-use Rattle.protocol.specs.Vocabulary.{Row, Step}
+use Rattle.safety.specs.Vocabulary.{Row, Step}
 use Rattle.protocol.specs.Effects.{Config}
 use Rattle.protocol.specs.Nodes.{first_rows}
 use Rattle.protocol.specs.Tables.{put_row}

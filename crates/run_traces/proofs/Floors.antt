@@ -9,8 +9,8 @@ use Rattle.xid.specs.Places.{Place, is_lower}
 use Rattle.xid.specs.declared.refusals.Refusal.TheVariants.{Down, NoSuch}
 use Rattle.ballot.specs.Greatest.{IsIn}
 use Rattle.protocol.specs.declared.requests.Request.TheVariants as requests
-use Rattle.protocol.specs.Vocabulary.{Answer, Ask, Change, Compact, Deliver, Done, Event, Hear, Lose, NodeId, R, Raise, Refused, Replace}
-use Rattle.protocol.specs.Vocabulary.{Request, Restart, Start, Put, Del, Get, End, EndFail, Rollback}
+use Rattle.safety.specs.Vocabulary.{Answer, Ask, Change, Compact, Deliver, Done, Event, Hear, Lose, NodeId, R, Raise, Refused, Replace}
+use Rattle.safety.specs.Vocabulary.{Request, Restart, Start, Put, Del, Get, End, EndFail, Rollback}
 use Rattle.protocol.specs.Effects.{Config}
 use Rattle.protocol.specs.Nodes.{NodeState, Asked, Fault, NoMemoryBefore, NoMemoryAt, Outcome, RecordFails, all_play, restart_outcome}
 use Rattle.protocol.specs.Worlds.{Datagram, Occurrence, datagram_at, node_at}

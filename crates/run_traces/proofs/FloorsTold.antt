@@ -11,7 +11,7 @@ use Rattle.xid.specs.declared.refusals.Refusal.TheVariants.{Down, NoSuch}
 use Rattle.xid.proofs.Places.{not_below_none, not_lower, not_lower_self}
 use Rattle.ballot.specs.Greatest.{IsIn}
 use Rattle.protocol.specs.declared.events.Told.{Told}
-use Rattle.protocol.specs.Vocabulary.{A, Answer, Done, Event, Hear, L, NodeId, R, Raise, Refused, Replace, Restart, Step}
+use Rattle.safety.specs.Vocabulary.{A, Answer, Done, Event, Hear, L, NodeId, R, Raise, Refused, Replace, Restart, Step}
 use Rattle.protocol.specs.Effects.{Config}
 use Rattle.protocol.specs.Nodes.{NodeState, Fault, NoMemoryAt, NoMemoryBefore, Outcome, RecordFails, all_play, restart_outcome}
 use Rattle.protocol.specs.Worlds.{StepResult, if_found, node_at, outcome_result, set_node}

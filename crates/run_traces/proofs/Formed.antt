@@ -1,7 +1,7 @@
 -- Events that a text may name are well formed.
 use Rattle.std.proofs.Common.{◌<◌}
-use Rattle.protocol.specs.Vocabulary.{Action, Start, Put, Del, Get, End, EndFail, Rollback, NodeId, L, R, Request, Call, Recover, Timeout}
-use Rattle.protocol.specs.Vocabulary.{Event, Ask, Deliver, Lose, Cut, Noise, Tear, Restart, Compact, Raise, Hear, Replace}
+use Rattle.safety.specs.Vocabulary.{Action, Start, Put, Del, Get, End, EndFail, Rollback, NodeId, L, R, Request, Call, Recover, Timeout}
+use Rattle.safety.specs.Vocabulary.{Event, Ask, Deliver, Lose, Cut, Noise, Tear, Restart, Compact, Raise, Hear, Replace}
 use Rattle.safety.specs.Forms as forms
 use Rattle.net_script.specs.Events.{IsEvent, IsAsked, IsAction, IsFloor}
 

@@ -18,7 +18,7 @@ use Rattle.stable_record.specs.Facts.{IsFact, IsTouched, IsAct}
 use Rattle.stable_record.specs.declared.fact.Act.{Act}
 use Rattle.stable_record.specs.declared.fact.FactKind.{FactKind as Fact}
 use Rattle.stable_record.specs.declared.fact.Touched.{Touched}
-use Rattle.protocol.specs.Vocabulary.{Action, Start, Put, Del, Get, End, EndFail, Rollback, Answer, Outgoing, BranchState, Row}
+use Rattle.safety.specs.Vocabulary.{Action, Start, Put, Del, Get, End, EndFail, Rollback, Answer, Outgoing, BranchState, Row}
 use Rattle.protocol.specs.Branches.{BranchView, by_state, call_answer, get_answer, hinders, key_fits, read_of, row_at, touch_answer}
 use Rattle.protocol.specs.Branches.{rollback_answer, value_after, value_fits}
 use Rattle.protocol.specs.Effects.{Config, Effect, is_inside}

@@ -12,7 +12,7 @@ use Rattle.wire.specs.declared.items.InstanceAccept.{InstanceAccept}
 use Rattle.wire.specs.declared.items.InstanceReport.{InstanceReport}
 use Rattle.ballot.specs.Ballots.{next_of, owner_of}
 use Rattle.ballot.specs.Choice.{is_prepared}
-use Rattle.protocol.specs.Vocabulary.{L, R, Address, Node, Acceptors, Managers, Outgoing, Status}
+use Rattle.safety.specs.Vocabulary.{L, R, Address, Node, Acceptors, Managers, Outgoing, Status}
 use Rattle.protocol.specs.Effects.{Config, Effect, is_inside, no_effect, to}
 use Rattle.protocol.specs.Acceptors.{Slots, on_acceptor_message, accept_messages, report_after, is_accepted, is_some_below}
 use Rattle.protocol.specs.LeaderMemory.{LeaderMemory, StoredBallots, status_of, with_all_heard, with_met}

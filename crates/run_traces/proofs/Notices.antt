@@ -4,7 +4,7 @@ use Rattle.std.proofs.Common.{Option, Some, None, refl, sym, ap, subst, arith}
 use Rattle.std.specs.List.{AllByRecursion, range_with_len}
 use Rattle.xid.specs.Places.{Place}
 use Rattle.ballot.specs.Greatest.{IsIn}
-use Rattle.protocol.specs.Vocabulary.{A, Ask, Deliver, Event, Hear, L, Lose, NodeId, R, Raise, Replace, Request}
+use Rattle.safety.specs.Vocabulary.{A, Ask, Deliver, Event, Hear, L, Lose, NodeId, R, Raise, Replace, Request}
 use Rattle.protocol.specs.Effects.{Config}
 use Rattle.protocol.specs.Nodes.{NodeState, Asked, Fault, NoMemoryBefore, first_rows}
 use Rattle.protocol.specs.Worlds.{datagram_at, node_at, world_step}

@@ -17,9 +17,9 @@ use Rattle.ballot.specs.Greatest.{IsIn}
 use Rattle.stable_record.specs.Facts.{IsFact, fact_tx}
 use Rattle.stable_record.specs.declared.fact.FactKind.{FactKind as Fact}
 use Rattle.stable_record.specs.declared.fact.FactKind.TheVariants as stored
-use Rattle.protocol.specs.Vocabulary.{NodeId, A, L, R, Address, Node, Acceptors, Leaders, Managers, Outgoing, Answer, Done, Refused}
-use Rattle.protocol.specs.Vocabulary.{Request, Call, Recover, Timeout, Event, Ask, Deliver, Lose, Cut, Noise, Tear, Restart, Compact}
-use Rattle.protocol.specs.Vocabulary.{Change}
+use Rattle.safety.specs.Vocabulary.{NodeId, A, L, R, Address, Node, Acceptors, Leaders, Managers, Outgoing, Answer, Done, Refused}
+use Rattle.safety.specs.Vocabulary.{Request, Call, Recover, Timeout, Event, Ask, Deliver, Lose, Cut, Noise, Tear, Restart, Compact}
+use Rattle.safety.specs.Vocabulary.{Change}
 use Rattle.protocol.specs.Effects.{Config, Effect, receivers}
 use Rattle.protocol.specs.Facts.{last_ballot, slot, view}
 use Rattle.protocol.specs.Nodes.{Memory, NodeState, Input, Asked, Received, ReceivedNoise, Fault, NoMemoryAt, NoMemoryBefore, RecordFails}

@@ -9,8 +9,8 @@ use Rattle.xid.specs.Places.{Place}
 use Rattle.xid.specs.declared.refusals.Refusal.TheVariants.{Down, Forged, NoSuch}
 use Rattle.wire.specs.Decoding.{spells_message}
 use Rattle.wire.specs.Grammar.{spelling}
-use Rattle.protocol.specs.Vocabulary.{Ask, Compact, Cut, Deliver, Done, Event, Hear, Lose, NodeId, Noise, R, Raise, Refused, Replace}
-use Rattle.protocol.specs.Vocabulary.{Restart, Tear}
+use Rattle.safety.specs.Vocabulary.{Ask, Compact, Cut, Deliver, Done, Event, Hear, Lose, NodeId, Noise, R, Raise, Refused, Replace}
+use Rattle.safety.specs.Vocabulary.{Restart, Tear}
 use Rattle.protocol.specs.Effects.{Config, Effect}
 use Rattle.protocol.specs.Nodes.{Memory, NodeState, Input, Asked, Received, ReceivedNoise, Fault, NoMemoryBefore, NoMemoryAt, RecordFails}
 use Rattle.protocol.specs.Nodes.{Outcome, accepts_input, answer_outcome, compact_outcome, down_answer, effect_of, effect_outcome}

@@ -11,7 +11,7 @@ use Rattle.xid.specs.declared.transaction.Vote.TheVariants.{Prepared, Aborted}
 use Rattle.wire.specs.declared.message.Kind.{Kind}
 use Rattle.stable_record.specs.declared.fact.FactKind.TheVariants as stored
 use Rattle.protocol.specs.Basics.{Fact}
-use Rattle.protocol.specs.Vocabulary.{Outgoing}
+use Rattle.safety.specs.Vocabulary.{Outgoing}
 use Rattle.protocol.specs.Facts.{vote_eq, last_ballot, ballot_begun}
 use Rattle.protocol.specs.PaperItems.{unbundled}
 pub use Rattle.protocol.specs.Facts.{with_fact}

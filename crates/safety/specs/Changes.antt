@@ -1,7 +1,7 @@
 -- What an event says of the view that it changed.
 use Rattle.std.specs.Prelude.{◌≡◌, ◌≢◌, ℕ, Some}
 use Rattle.xid.specs.Transactions.{TxParts}
-use Rattle.protocol.specs.Vocabulary.{Change}
+use Rattle.safety.specs.Vocabulary.{Change}
 use Rattle.protocol.specs.Effects.{Config}
 use Rattle.protocol.specs.Worlds.{World, StepResult}
 use Rattle.safety.specs.Runs.{views_in}

@@ -4,7 +4,7 @@ use Rattle.xid.specs.Limits.{most_acceptors}
 use Rattle.xid.specs.Names.{IsBytes, IsXid}
 use Rattle.xid.specs.Transactions.{IsTx}
 use Rattle.protocol.specs.declared.requests.Request.TheVariants.{Recover}
-use Rattle.protocol.specs.Vocabulary.{Event, Ask, Action, Put, Del, Get, Request, Call, Timeout}
+use Rattle.safety.specs.Vocabulary.{Event, Ask, Action, Put, Del, Get, Request, Call, Timeout}
 use Rattle.protocol.specs.Effects.{Config}
 use Rattle.protocol.specs.Nodes.{Fault}
 use Rattle.protocol.specs.Worlds.{World, opening, world_step}

@@ -1,3 +1,4 @@
+pub mod Vocabulary
 pub mod CommitSteps
 pub mod Items
 pub mod Invariant

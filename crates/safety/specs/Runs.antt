@@ -1,7 +1,7 @@
 -- Runs: the worlds that a cluster can come to, and the states of a transaction in a world.
 use Rattle.std.specs.Prelude.{ℕ}
 use Rattle.xid.specs.Transactions.{TxParts}
-use Rattle.protocol.specs.Vocabulary.{R, View, Event}
+use Rattle.safety.specs.Vocabulary.{R, View, Event}
 use Rattle.protocol.specs.Effects.{Config}
 use Rattle.protocol.specs.Facts.{view}
 use Rattle.protocol.specs.Nodes.{Fault}

@@ -3,7 +3,7 @@ use Rattle.std.specs.Prelude.{◌≡◌, ℕ, zero, suc, List}
 use Rattle.wire.specs.declared.message.Kind.{Kind}
 use Rattle.wire.specs.declared.message.Kind.TheVariants.{Prepare, P1a, P1b, P2a, P2b, Commit, Abort, Ask}
 use Rattle.ballot.specs.Ballots.{owner_of}
-use Rattle.protocol.specs.Vocabulary.{NodeId, A, L, R}
+use Rattle.safety.specs.Vocabulary.{NodeId, A, L, R}
 use Rattle.protocol.specs.Effects.{Config}
 use Rattle.protocol.specs.PaperItems.{unbundled}
 use Rattle.protocol.specs.Worlds.{Datagram}

@@ -8,7 +8,7 @@ use Rattle.ballot.specs.Greatest.{IsIn}
 use Rattle.ballot.specs.Ballots.{owner_of}
 use Rattle.stable_record.specs.declared.fact.FactKind.TheVariants as stored
 use Rattle.protocol.specs.Basics.{Fact}
-use Rattle.protocol.specs.Vocabulary.{NodeId, A, L, R}
+use Rattle.safety.specs.Vocabulary.{NodeId, A, L, R}
 use Rattle.protocol.specs.Effects.{Config}
 use Rattle.protocol.specs.Nodes.{NodeState}
 use Rattle.protocol.specs.PaperItems.{unbundled}

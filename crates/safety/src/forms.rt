@@ -7,7 +7,7 @@ ghost use Rattle.wire.specs.Messages.{IsMessage};
 ghost use Rattle.ballot.specs.Greatest.{IsIn};
 ghost use Rattle.stable_record.specs.Facts.{IsFact};
 ghost use Rattle.protocol.specs.Basics.{Fact};
-ghost use Rattle.protocol.specs.Vocabulary.{NodeId};
+ghost use Rattle.safety.specs.Vocabulary.{NodeId};
 ghost use Rattle.protocol.specs.Effects.{Config};
 ghost use Rattle.protocol.specs.Nodes.{NodeState};
 ghost use Rattle.protocol.specs.Worlds.{World, Datagram, Occurrence, node_at, world_after};

@@ -5,7 +5,7 @@ ghost use Rattle.xid.specs.Transactions.{TxParts, is_participant};
 ghost use Rattle.xid.specs.declared.transaction.Vote.TheVariants as votes;
 ghost use Rattle.xid.specs.declared.refusals.Refusal.TheVariants.{Damaged};
 ghost use Rattle.protocol.specs.declared.states.View.TheVariants as views;
-ghost use Rattle.protocol.specs.Vocabulary.{NodeId, Done, Refused, Event, Restart};
+ghost use Rattle.safety.specs.Vocabulary.{NodeId, Done, Refused, Event, Restart};
 ghost use Rattle.protocol.specs.Effects.{Config};
 ghost use Rattle.protocol.specs.Nodes.{NodeState, Fault, NoFault, all_play};
 ghost use Rattle.protocol.specs.TCommit.{IsReady, IsCommitStep};

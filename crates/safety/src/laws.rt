@@ -2,7 +2,7 @@
 ghost use Rattle.std.specs.Prelude.{◌≡◌, ℕ, true, [], List};
 ghost use Rattle.xid.specs.Transactions.{TxParts};
 ghost use Rattle.protocol.specs.Basics.{Fact};
-ghost use Rattle.protocol.specs.Vocabulary.{A};
+ghost use Rattle.safety.specs.Vocabulary.{A};
 ghost use Rattle.protocol.specs.Effects.{Config};
 ghost use Rattle.protocol.specs.Facts.{slot, view};
 ghost use Rattle.protocol.specs.Nodes.{all_play};

@@ -8,7 +8,7 @@ ghost use Rattle.wire.specs.declared.message.Kind.{Kind};
 ghost use Rattle.wire.specs.declared.message.Kind.TheVariants as messages;
 ghost use Rattle.ballot.specs.Ballots.{owner_of};
 ghost use Rattle.ballot.specs.Choice.{Report};
-ghost use Rattle.protocol.specs.Vocabulary.{A, L, R, Event};
+ghost use Rattle.safety.specs.Vocabulary.{A, L, R, Event};
 ghost use Rattle.safety.specs.Changes.{SaysItsChange};
 ghost use Rattle.protocol.specs.Facts.{bound_branches, slot, last_ballot};
 ghost use Rattle.protocol.specs.Effects.{Config};

@@ -17,7 +17,7 @@ use Rattle.ballot.specs.Choice.{Report, is_prepared}
 use Rattle.ballot.specs.declared.slot.Slot.{Slot}
 use Rattle.stable_record.specs.declared.fact.FactKind.TheVariants as stored
 use Rattle.protocol.specs.Basics.{Fact}
-use Rattle.protocol.specs.Vocabulary.{NodeId, A, L, Address, Node, Outgoing, Leaders}
+use Rattle.safety.specs.Vocabulary.{NodeId, A, L, Address, Node, Outgoing, Leaders}
 use Rattle.protocol.specs.Effects.{Config, Effect, no_effect, sends_only, stores, to}
 use Rattle.protocol.specs.Facts.{slot, vote_eq}
 use Rattle.protocol.specs.Acceptors.{is_accepted, reports_below, is_some_below, report_after, accept_item, accept_messages}

@@ -12,7 +12,7 @@ use Rattle.xid.specs.declared.transaction.Vote.{Vote}
 use Rattle.ballot.specs.Choice.{Report}
 use Rattle.stable_record.specs.declared.fact.FactKind.TheVariants as stored
 use Rattle.protocol.specs.Basics.{Fact}
-use Rattle.protocol.specs.Vocabulary.{A}
+use Rattle.safety.specs.Vocabulary.{A}
 use Rattle.protocol.specs.Acceptors.{is_accepted, plays_at_acceptor}
 use Rattle.protocol.specs.Effects.{Config}
 use Rattle.protocol.specs.Facts.{instance_eq, ballot_joined, accept_of, slot}

@@ -17,7 +17,7 @@ use Rattle.ballot.proofs.Turns.{next_is}
 use Rattle.stable_record.specs.declared.fact.FactKind.TheVariants as stored
 use Rattle.protocol.specs.Basics.{Fact}
 use Rattle.protocol.specs.declared.states.Status.TheVariants as statuses
-use Rattle.protocol.specs.Vocabulary.{L, R, Status, Stands, Refused, Outgoing, Address, Node, Acceptors, Managers, Request, Timeout, Ask}
+use Rattle.safety.specs.Vocabulary.{L, R, Status, Stands, Refused, Outgoing, Address, Node, Acceptors, Managers, Request, Timeout, Ask}
 use Rattle.protocol.specs.Facts.{last_ballot}
 use Rattle.protocol.specs.Effects.{status_standing, Config, Effect, to, is_inside, answer_only, no_effect, sends_only, stores}
 use Rattle.protocol.specs.LeaderMemory.{LeaderMemory, current, is_reported, value_to_propose, is_proposed, status_of}

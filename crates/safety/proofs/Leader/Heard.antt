@@ -11,7 +11,7 @@ use Rattle.xid.specs.declared.transaction.Vote.TheVariants.{Prepared, Aborted}
 use Rattle.wire.specs.declared.message.Kind.{Kind}
 use Rattle.wire.specs.declared.message.Kind.TheVariants.{P1b, P2b}
 use Rattle.ballot.specs.Choice.{Report, IsIn, pick, top_of, says_prepared, is_prepared}
-use Rattle.protocol.specs.Vocabulary.{Status}
+use Rattle.safety.specs.Vocabulary.{Status}
 use Rattle.protocol.specs.Facts.{instance_eq, vote_eq}
 use Rattle.protocol.specs.declared.states.Status.TheVariants as statuses
 use Rattle.protocol.specs.LeaderMemory.{LeaderMemory, StoredBallots, message_report, is_report_of, has_reported, is_reported}

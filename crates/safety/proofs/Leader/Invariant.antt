@@ -10,7 +10,7 @@ use Rattle.ballot.specs.Ballots.{IsOwned}
 use Rattle.ballot.specs.Choice.{Report}
 use Rattle.stable_record.specs.declared.fact.FactKind.TheVariants as stored
 use Rattle.protocol.specs.Basics.{Fact}
-use Rattle.protocol.specs.Vocabulary.{Outgoing}
+use Rattle.safety.specs.Vocabulary.{Outgoing}
 use Rattle.protocol.specs.Facts.{last_ballot}
 use Rattle.protocol.specs.Effects.{Config}
 use Rattle.protocol.specs.PaperItems.{unbundled}

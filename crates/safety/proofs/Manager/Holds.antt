@@ -3,7 +3,7 @@
 use Rattle.std.proofs.Common.{◌≡◌, ℕ, true, List, [], Some, ap, subst}
 use Rattle.stable_record.specs.Facts.{AreAscending}
 use Rattle.protocol.specs.Basics.{Fact}
-use Rattle.protocol.specs.Vocabulary.{R}
+use Rattle.safety.specs.Vocabulary.{R}
 use Rattle.protocol.specs.Facts.{bound_branches}
 use Rattle.protocol.specs.Effects.{Config}
 use Rattle.protocol.specs.Managers.{Branch, all_branches}

@@ -17,7 +17,7 @@ use Rattle.stable_record.proofs.Widths.{instance_fits}
 use Rattle.stable_record.specs.Facts.{IsFact}
 use Rattle.stable_record.specs.declared.fact.FactKind.TheVariants as stored
 use Rattle.protocol.specs.Basics.{Fact}
-use Rattle.protocol.specs.Vocabulary.{A}
+use Rattle.safety.specs.Vocabulary.{A}
 use Rattle.safety.specs.Laws.{IsGreatestAccept}
 use Rattle.protocol.specs.Facts.{slot}
 use Rattle.protocol.specs.Effects.{Config, Effect, no_effect}

@@ -15,7 +15,7 @@ use Rattle.xid.specs.declared.refusals.Refusal.TheVariants.{Busy, Full}
 use Rattle.xid.proofs.Deciding.{xid_decides}
 use Rattle.stable_record.specs.Facts.{IsKey, IsValue, IsAct, IsTouched, AreKeys, AreAscending}
 use Rattle.protocol.specs.Basics.{Fact, Act, Touched}
-use Rattle.protocol.specs.Vocabulary.{BranchState, Action, Start, Put, Del, Get, End, EndFail, Rollback, Answer, Code, Refused, Row}
+use Rattle.safety.specs.Vocabulary.{BranchState, Action, Start, Put, Del, Get, End, EndFail, Rollback, Answer, Code, Refused, Row}
 use Rattle.safety.specs.Forms.{IsAction}
 use Rattle.protocol.specs.Holds.{AreNamedOnce, names_of, AreApart}
 use Rattle.protocol.specs.declared.states.BranchState.TheVariants as states

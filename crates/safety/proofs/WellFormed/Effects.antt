@@ -6,7 +6,7 @@ use Rattle.std.specs.List.{AllByRecursion}
 use Rattle.xid.specs.Transactions.{TxParts, IsTx, participants, is_participant}
 use Rattle.wire.specs.Messages.{IsMessage, IsInstance, AreInstances}
 use Rattle.stable_record.specs.Facts.{IsFact}
-use Rattle.protocol.specs.Vocabulary.{Answer, Outgoing}
+use Rattle.safety.specs.Vocabulary.{Answer, Outgoing}
 use Rattle.protocol.specs.Effects.{Effect, answer_only, sends_only}
 use Rattle.protocol.specs.Nodes.{Memory, in_memory}
 use Rattle.ballot.specs.Greatest.{IsIn}

@@ -12,7 +12,7 @@ use Rattle.wire.specs.Messages.{IsMessage, IsInstance, IsBallot, IsLeaderBallot}
 use Rattle.ballot.specs.Ballots.{next_of}
 use Rattle.ballot.specs.Greatest.{IsIn}
 use Rattle.protocol.specs.declared.states.Status.TheVariants as statuses
-use Rattle.protocol.specs.Vocabulary.{Answer, Outgoing, Address, Acceptors, Managers, Status}
+use Rattle.safety.specs.Vocabulary.{Answer, Outgoing, Address, Acceptors, Managers, Status}
 use Rattle.protocol.specs.Effects.{Config, Effect, answer_only, sends_only, to, is_inside}
 use Rattle.protocol.specs.LeaderMemory.{LeaderMemory, StoredBallots, status_of, with_met, with_all_heard, is_reported, is_proposed}
 use Rattle.protocol.specs.LeaderMemory.{value_to_propose}

@@ -11,7 +11,7 @@ use Rattle.wire.specs.declared.message.Kind.TheVariants.{Prepare, Commit, Abort}
 use Rattle.wire.specs.Messages.{IsMessage, IsInstance, message_tx}
 use Rattle.stable_record.specs.Facts.{AreKeys}
 use Rattle.protocol.specs.Basics.{Fact, Touched}
-use Rattle.protocol.specs.Vocabulary.{R}
+use Rattle.safety.specs.Vocabulary.{R}
 use Rattle.safety.specs.Standing.{HasVote}
 use Rattle.protocol.specs.Facts.{vote_in, is_ended, is_spent, view, is_prepared_view, is_open_view}
 use Rattle.protocol.specs.Effects.{Config, Effect, no_effect, is_inside}

@@ -9,7 +9,7 @@ use Rattle.xid.specs.Transactions.{xid_at}
 use Rattle.stable_record.specs.Facts.{IsFact}
 use Rattle.ballot.specs.Greatest.{IsIn}
 use Rattle.protocol.specs.Basics.{Fact}
-use Rattle.protocol.specs.Vocabulary.{A, L, R, Answer, Request, Call, Timeout}
+use Rattle.safety.specs.Vocabulary.{A, L, R, Answer, Request, Call, Timeout}
 use Rattle.safety.specs.Forms.{IsRequest}
 use Rattle.protocol.specs.Facts.{last_ballot}
 use Rattle.protocol.specs.Effects.{Config, Effect, answer_only}

@@ -16,8 +16,8 @@ use Rattle.wire.proofs.OneSpelling.{begins_none}
 use Rattle.wire.specs.Messages.{IsMessage, IsAcceptor, message_tx}
 use Rattle.ballot.specs.Greatest.{IsIn}
 use Rattle.protocol.specs.Basics.{Fact}
-use Rattle.protocol.specs.Vocabulary.{NodeId, A, L, R, Outgoing, Done, Refused, Event, Ask, Deliver, Lose, Cut, Noise, Tear, Restart}
-use Rattle.protocol.specs.Vocabulary.{Compact}
+use Rattle.safety.specs.Vocabulary.{NodeId, A, L, R, Outgoing, Done, Refused, Event, Ask, Deliver, Lose, Cut, Noise, Tear, Restart}
+use Rattle.safety.specs.Vocabulary.{Compact}
 use Rattle.safety.specs.Forms.{IsEvent, IsSized, IsWellReached}
 use Rattle.safety.specs.Forms as forms
 use Rattle.safety.specs.Runs.{IsReachable, Opening, After}

@@ -15,8 +15,8 @@ use Rattle.stable_record.specs.Facts.{fact_tx}
 use Rattle.xid.specs.declared.refusals.Refusal.TheVariants.{NoSuch, Forged, NoMemory, Down}
 use Rattle.protocol.specs.Basics.{Fact}
 use Rattle.protocol.specs.declared.states.View.TheVariants as views
-use Rattle.protocol.specs.Vocabulary.{NodeId, A, L, R, View, Change, Answer, Done, Refused, Event, Ask, Deliver, Lose, Cut, Noise, Tear}
-use Rattle.protocol.specs.Vocabulary.{Restart, Compact}
+use Rattle.safety.specs.Vocabulary.{NodeId, A, L, R, View, Change, Answer, Done, Refused, Event, Ask, Deliver, Lose, Cut, Noise, Tear}
+use Rattle.safety.specs.Vocabulary.{Restart, Compact}
 use Rattle.protocol.specs.Facts.{view, is_vote_of, is_commit_of, is_abort_of}
 use Rattle.wire.specs.Decoding.{spells_message}
 use Rattle.wire.specs.Grammar.{spelling}

@@ -10,7 +10,7 @@ use Rattle.xid.specs.Transactions.{TxParts}
 use Rattle.wire.specs.declared.message.Kind.{Kind}
 use Rattle.xid.specs.declared.refusals.Refusal.TheVariants.{NoSuch, Forged, Down}
 use Rattle.protocol.specs.Basics.{Fact}
-use Rattle.protocol.specs.Vocabulary.{NodeId, L, R, Outgoing, Done, Refused, Event, Deliver, Lose, Cut, Noise, Tear, Restart, Compact, Ask}
+use Rattle.safety.specs.Vocabulary.{NodeId, L, R, Outgoing, Done, Refused, Event, Deliver, Lose, Cut, Noise, Tear, Restart, Compact, Ask}
 use Rattle.protocol.specs.Effects.{Config}
 use Rattle.wire.specs.Decoding.{spells_message}
 use Rattle.wire.specs.Grammar.{spelling}

@@ -10,7 +10,7 @@ use Rattle.wire.specs.declared.message.Kind.{Kind}
 use Rattle.wire.specs.declared.message.Kind.TheVariants as kinds
 use Rattle.stable_record.specs.declared.fact.FactKind.TheVariants as stored
 use Rattle.protocol.specs.Basics.{Fact}
-use Rattle.protocol.specs.Vocabulary.{NodeId, A, L, R}
+use Rattle.safety.specs.Vocabulary.{NodeId, A, L, R}
 use Rattle.protocol.specs.PaperItems.{message_items, comes_to}
 use Rattle.safety.specs.Items.{Item, Promised, Accepted, Began, Voted, Committed, StoredAbort, P1b, P2a, P2b, Commit, Abort}
 use Rattle.ballot.specs.Greatest.{IsIn}

@@ -7,7 +7,7 @@ use Rattle.std.specs.List.{slice_set, flat_map}
 use Rattle.std.specs.Option.{option_and_then, option_map_or}
 use Rattle.std.proofs.lemmas.Bool.{ltb-true}
 use Rattle.wire.specs.declared.message.Kind.{Kind}
-use Rattle.protocol.specs.Vocabulary.{NodeId, A, L, R}
+use Rattle.safety.specs.Vocabulary.{NodeId, A, L, R}
 use Rattle.protocol.specs.Effects.{Config}
 use Rattle.protocol.specs.Nodes.{NodeState, new_node}
 use Rattle.protocol.specs.PaperItems.{unbundled}

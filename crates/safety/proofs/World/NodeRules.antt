@@ -4,7 +4,7 @@ use Rattle.std.proofs.Common.{◌≡◌, ℕ, ◌<◌, true, List, Option, Some,
 use Rattle.std.proofs.lemmas.Bool.{cond_both}
 use Rattle.wire.specs.declared.message.Kind.{Kind}
 use Rattle.protocol.specs.Basics.{Fact}
-use Rattle.protocol.specs.Vocabulary.{NodeId, A, L, R, Answer}
+use Rattle.safety.specs.Vocabulary.{NodeId, A, L, R, Answer}
 use Rattle.protocol.specs.Effects.{Config, Effect, answer_only}
 use Rattle.protocol.specs.Nodes.{Memory, NodeState, Input, Received, effect_of, on_message, is_message_inside}
 use Rattle.protocol.specs.Acceptors.{plays_at_acceptor}

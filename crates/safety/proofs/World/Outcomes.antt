@@ -9,7 +9,7 @@ use Rattle.std.proofs.lemmas.List.{append-nil}
 use Rattle.wire.specs.declared.message.Kind.{Kind}
 use Rattle.wire.specs.Messages as messages
 use Rattle.protocol.specs.Basics.{Fact}
-use Rattle.protocol.specs.Vocabulary.{NodeId, L, R, Outgoing, Answer}
+use Rattle.safety.specs.Vocabulary.{NodeId, L, R, Outgoing, Answer}
 use Rattle.protocol.specs.Effects.{Config, Effect, receivers}
 use Rattle.stable_record.specs.Frames.{frame_length}
 use Rattle.protocol.specs.Nodes.{Memory, empty_memory, NodeState, Input, Fault, RecordFails, NoMemoryAt, Outcome, accepts_input, effect_of}

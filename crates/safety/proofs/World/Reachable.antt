@@ -7,7 +7,7 @@ use Rattle.xid.specs.declared.transaction.Vote.{Vote}
 use Rattle.xid.specs.declared.transaction.Vote.TheVariants as votes
 use Rattle.xid.specs.declared.refusals.Refusal.TheVariants.{Damaged, NoSuch}
 use Rattle.protocol.specs.declared.states.View.TheVariants as views
-use Rattle.protocol.specs.Vocabulary.{NodeId, A, L, View, Done, Refused, Event, Restart}
+use Rattle.safety.specs.Vocabulary.{NodeId, A, L, View, Done, Refused, Event, Restart}
 use Rattle.protocol.specs.Effects.{Config}
 use Rattle.protocol.specs.Nodes.{NodeState, Fault, NoFault, RecordFails, NoMemoryBefore, NoMemoryAt, empty_memory, answer_outcome}
 use Rattle.protocol.specs.Nodes.{down_node, restart_outcome, all_play}

@@ -12,7 +12,7 @@ use Rattle.wire.specs.declared.message.Kind.TheVariants as kinds
 use Rattle.ballot.specs.Ballots.{IsOwned}
 use Rattle.protocol.specs.Basics.{Fact}
 use Rattle.protocol.specs.declared.states.View.TheVariants as views
-use Rattle.protocol.specs.Vocabulary.{NodeId, L, R, View}
+use Rattle.safety.specs.Vocabulary.{NodeId, L, R, View}
 use Rattle.protocol.specs.Effects.{Config}
 use Rattle.protocol.specs.Facts.{view}
 use Rattle.protocol.specs.Nodes.{NodeState, plays, all_play}

@@ -1,7 +1,7 @@
 use Rattle.std.proofs.Common.{◌≡◌, List, [], ◌++◌, ℕ, Option, ap, inl, rules}
 use Rattle.std.specs.List.{flat_map}
 use Rattle.std.proofs.lemmas.Result.{on_ok_weaker}
-use Rattle.protocol.specs.Vocabulary.{Step}
+use Rattle.safety.specs.Vocabulary.{Step}
 use Rattle.cluster.specs.Clusters.{sent_after, step_by, told_after}
 use Rattle.net_script.specs.declared.values.Command.TheVariants.{Do}
 use Rattle.net_script.specs.Events.{event_words}

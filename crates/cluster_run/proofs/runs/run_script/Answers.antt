@@ -1,6 +1,6 @@
 use Rattle.std.proofs.Common.{◌≡◌, ◌∙◌, ◌++◌, ap, inl, List, ℕ, Option, rules}
 use Rattle.std.proofs.KnownBytes.{Keeps-refl}
-use Rattle.protocol.specs.Vocabulary.{Row}
+use Rattle.safety.specs.Vocabulary.{Row}
 use Rattle.net_script.specs.Traces.{final_lines}
 use Rattle.cluster_run.proofs.Configs.{handed_on}
 use Rattle.cluster_run.proofs.Running.{begun_by, ends_by, ends_err, ends_ok, runs_on, stops_after, stops_in}

@@ -1,5 +1,5 @@
 use Rattle.std.proofs.Common.{◌∙◌, ap}
-use Rattle.protocol.specs.Vocabulary.{R, Ask}
+use Rattle.safety.specs.Vocabulary.{R, Ask}
 use Rattle.protocol.specs.Worlds.{StepResult}
 use Rattle.history.proofs.Answering.{answered_ever}
 use Rattle.history.proofs.Laws as laws

@@ -1,5 +1,5 @@
 use Rattle.protocol.specs.declared.states.Standing.TheVariants as standings
-use Rattle.protocol.specs.Vocabulary.{Stands}
+use Rattle.safety.specs.Vocabulary.{Stands}
 use Rattle.progress.proofs.Lasting.{commits, aborts}
 use Rattle.floors.proofs.Following.{are_runs}
 use Rattle.floors.proofs.Ends.{answered, narrow, back, ballots_there}

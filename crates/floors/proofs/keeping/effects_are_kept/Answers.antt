@@ -1,6 +1,6 @@
 use Rattle.xid.specs.Places.{is_below}
 use Rattle.std.proofs.Common.{◌≡◌, ◌∙◌, false, sym, ap, subst}
-use Rattle.protocol.specs.Vocabulary.{NodeId}
+use Rattle.safety.specs.Vocabulary.{NodeId}
 use Rattle.protocol.specs.Worlds.{node_at}
 use Rattle.floors.proofs.Above.{above_ever}
 use Rattle.floors.proofs.Restricting.{effect_kept}

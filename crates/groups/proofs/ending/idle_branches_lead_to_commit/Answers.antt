@@ -1,6 +1,6 @@
 use Rattle.std.specs.Prelude.{◌≡◌}
 use Rattle.std.proofs.Common.{sym, subst}
-use Rattle.protocol.specs.Vocabulary.{L, Stands}
+use Rattle.safety.specs.Vocabulary.{L, Stands}
 use Rattle.safety.specs.CommitSteps.{committed}
 use Rattle.protocol.specs.declared.requests.Request.TheVariants as requests
 use Rattle.protocol.specs.declared.states.Standing.TheVariants as standings

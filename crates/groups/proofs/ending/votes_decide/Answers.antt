@@ -1,6 +1,6 @@
 use Rattle.std.specs.Prelude.{◌≡◌}
 use Rattle.protocol.specs.declared.states.Standing.TheVariants as standings
-use Rattle.protocol.specs.Vocabulary.{Stands}
+use Rattle.safety.specs.Vocabulary.{Stands}
 use Rattle.progress.specs.Runs.{leader_and_quorum}
 use Rattle.progress.specs.Outcomes.{status_answer}
 use Rattle.progress.proofs.Lasting.{commits, aborts}

@@ -1,5 +1,5 @@
 use Rattle.std.specs.Prelude.{◌≡◌}
-use Rattle.protocol.specs.Vocabulary.{Stands}
+use Rattle.safety.specs.Vocabulary.{Stands}
 use Rattle.safety.specs.CommitSteps.{committed}
 use Rattle.protocol.specs.declared.states.Standing.TheVariants as standings
 use Rattle.progress.specs.Runs.{leader_quorum_and_participants}

@@ -1,5 +1,5 @@
 use Rattle.std.proofs.Common.{◌≡◌, ◌<◌, ℕ, true, List, Some}
-use Rattle.protocol.specs.Vocabulary.{L}
+use Rattle.safety.specs.Vocabulary.{L}
 use Rattle.protocol.specs.Effects.{Config}
 use Rattle.protocol.specs.Facts.{last_ballot}
 use Rattle.protocol.specs.Nodes.{NodeState}

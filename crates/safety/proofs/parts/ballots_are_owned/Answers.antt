@@ -1,5 +1,5 @@
 use Rattle.ballot.specs.Ballots.{owner_of}
-use Rattle.protocol.specs.Vocabulary.{L}
+use Rattle.safety.specs.Vocabulary.{L}
 use Rattle.safety.specs.Standing.{setting, Stands, facts_at}
 use Rattle.safety.proofs.Argument.Agreement.{one_proposal}
 use Rattle.safety.proofs.World.Reachable.{invariant}

@@ -1,5 +1,5 @@
 use Rattle.std.proofs.Common.{◌∙◌}
-use Rattle.protocol.specs.Vocabulary.{Ask}
+use Rattle.safety.specs.Vocabulary.{Ask}
 use Rattle.audit.proofs.BranchLemmas.{called_so}
 use Rattle.audit.proofs.ledger.Ledger.take_event.Goals as goal
 

@@ -1,6 +1,6 @@
 use Rattle.std.proofs.Common.{◌∙◌, ◌<◌, [], ◌∷◌, ◌++◌, length, ap, arith}
 use Rattle.xid.specs.Transactions.{participants}
-use Rattle.protocol.specs.Vocabulary.{View}
+use Rattle.safety.specs.Vocabulary.{View}
 use Rattle.audit.proofs.ListLemmas.{participants_many, working_more}
 use Rattle.audit.proofs.views.Course.working.Goals as goal
 

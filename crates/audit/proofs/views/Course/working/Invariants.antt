@@ -1,6 +1,6 @@
 use Rattle.std.proofs.Common.{◌≡◌, map, take}
 use Rattle.xid.specs.Transactions.{participants}
-use Rattle.protocol.specs.Vocabulary.{View}
+use Rattle.safety.specs.Vocabulary.{View}
 use Rattle.audit.proofs.views.Course.working.Given as goal
 
 abbrev pub invariant-loop-place : goal.invariant-loop-place

@@ -1,6 +1,6 @@
 use Rattle.std.proofs.Common.{◌≡◌, ◌∙◌, ◌<◌, true, length, get_or, sym, ap, arith}
 use Rattle.xid.specs.Transactions.{participants}
-use Rattle.protocol.specs.Vocabulary.{View}
+use Rattle.safety.specs.Vocabulary.{View}
 use Rattle.history.specs.Writes.{is_committed_view}
 use Rattle.audit.specs.Books.{IsNumberOf, has_committed, view_in, views_in}
 use Rattle.audit.proofs.ListLemmas.{all_next, participant_at, participants_many}
