@@ -115,6 +115,8 @@ def law_modules():
                 modules[module] = read(f"{ROOT}/crates/{crate}/specs/{file}.antt")
                 wanted.add(module)
         modules[name] = DEFINITIONS.sub(lambda found: f"Rattle.protocol.proofs.{module_of(found[1])}{found[2]}", modules[name])
+        # there are no crates above
+        modules[name] = modules[name].replace("Rattle.safety.specs.Vocabulary", "Rattle.protocol.specs.Vocabulary")
     return modules
 
 
