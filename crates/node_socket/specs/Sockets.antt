@@ -4,6 +4,7 @@ use Rattle.std.specs.Option.{option_and_then}
 use Rattle.std.specs.declared.net.socket_addr.SocketAddr.{SocketAddr}
 use Rattle.xid.specs.declared.refusals.Refusal.{Refusal}
 use Rattle.protocol.specs.declared.nodes.NodeId.{NodeId}
+use Rattle.protocol.specs.Effects.{Config}
 use Rattle.protocol.specs.Worlds.{place}
 use Rattle.node_core.specs.Configs.{config_by}
 use Rattle.node_core.specs.Nodes.{AreSizes}
