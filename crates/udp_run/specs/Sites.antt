@@ -19,6 +19,7 @@ use Rattle.protocol.specs.Worlds.{place}
 use Rattle.node_core.specs.declared.config.Sizes.{Sizes}
 use Rattle.node_core.specs.Configs.{config_by}
 use Rattle.node_core.specs.Opening.{restart_answer}
+use Rattle.node_core.specs.Places.{node_count}
 use Rattle.port.specs.declared.calling.Served.{Served}
 use Rattle.port.specs.Members.{Acts, CompactsMember, MemberParts, RestartsMember}
 use Rattle.port.specs.Calls.{Sending, Calls, Raises}
