@@ -52,7 +52,9 @@ impl NodeSocket {
     }
 
     /// What it has counted, where so many of the datagrams that came were dropped for their signature.
-    pub fn counts(&self, dropped: u64) -> PortCounts {
+    pub fn counts(&self, dropped: u64) -> PortCounts
+        ensures { result ≡ record { taken = self.now.taken; sent = self.now.sent; dropped = dropped } }
+    {
         PortCounts {
             taken: self.taken,
             sent: self.sent,

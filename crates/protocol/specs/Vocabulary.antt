@@ -1,5 +1,5 @@
--- The vocabulary of all crates: the types of this one, which code and definitions share, each with its variants. Variants whose names
--- another type has too are written behind their type.
+-- The vocabulary of this crate: its types, which code and definitions share, each with its variants. Variants whose names another type has
+-- too are written behind their type.
 pub use Rattle.protocol.specs.declared.answers.Answer.{Answer}
 pub use Rattle.protocol.specs.declared.answers.Answer.TheVariants.{Done, Code, Value, NoValue, Xids, Stands, Refused}
 pub use Rattle.protocol.specs.declared.decisions.Address.{Address}
