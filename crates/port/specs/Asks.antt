@@ -6,7 +6,7 @@ use Rattle.xid.specs.declared.refusals.Refusal.{Refusal}
 use Rattle.xid.specs.declared.refusals.Refusal.TheVariants.{PortFault}
 use Rattle.port.specs.declared.counted.CountedSocket.{CountedSocket}
 use Rattle.port.specs.declared.counted.SendReply.{SendReply}
-use Rattle.port.specs.declared.counted.SendReply.TheVariants.{Sent, Interrupted, Failed}
+use Rattle.port.specs.declared.counted.SendReply.TheVariants.{Sent, Interrupted}
 
 -- a port of 127.0.0.1
 abbrev pub loopback : ℕ → SocketAddr
