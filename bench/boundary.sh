@@ -1,7 +1,7 @@
 #!/bin/sh
 # Prints how many instructions more an input takes at a node that may have a floor, and has none, than at one without, in each role:
-# `bench/boundary.sh [PROGRAM]`. Of each it counts 3,000 and 1,000 transactions by callgrind, so that what opening takes isn't among them. The
-# program is bench/boundary.rs as bench/build.sh leaves it, and is built where it isn't given.
+# `bench/boundary.sh [PROGRAM]`. Of each it counts 3,000 and 1,000 transactions by callgrind, so that what opening takes isn't among them.
+# The program is bench/boundary.rs as bench/build.sh leaves it, and is built where it isn't given.
 . "$(dirname "$0")/start.sh"
 command -v valgrind >/dev/null || { echo 'no valgrind here, by which instructions are counted' >&2; exit 1; }
 take_program "$1" floored boundary acceptor node 1

@@ -1,8 +1,8 @@
 //! A resource manager, for `bench/branches.sh`. It prints how much was done, and the nanoseconds of that.
 //! `calls OPEN CYCLES`: so many branches are open, each with 4 keys put. In a cycle one of them ends, is rolled back and starts anew, and
 //! then puts its 4 keys and gets them: 11 calls.
-//! `commits ROWS BATCHES DONE`: the table is filled with so many rows. In a batch 20 transactions are voted prepared, whose branches put 3 rows of
-//! the table, and a new one in every other batch, which they delete in the others. Of them so many are committed: only that is timed.
+//! `commits ROWS BATCHES DONE`: the table is filled with so many rows. In a batch 20 transactions are voted prepared, whose branches put 3
+//! rows of the table, and a new one in every other batch, which they delete in the others. Of them so many are committed: only that is timed.
 //! `read TRANSACTIONS ROUNDS`, `replay TRANSACTIONS ROUNDS`: a record has the votes and the commits of so many transactions, of 4 keys
 //! each. It is read, and its facts are played by a resource manager that has played none.
 #![tactic(auto)]

@@ -1,8 +1,8 @@
 #!/usr/bin/env python3
 """pages.py --check: counts again what the pages say there is so many of (crates, runs, edits, tests, calls, rules), and fails where a page
-says another figure, or none says it any more, or two pages differ in how long `make try` takes; where a link of a page leads to no file or no
-heading; where a file of the repository that a page names isn't there; where FORMATS.md has other bytes of a cluster's digest and a signed
-letter than Python's hashes give. Figures of time and speed are measured and can't be counted again."""
+says another figure, or none says it any more, or two pages differ in how long `make try` takes; where a link of a page leads to no file
+or no heading; where a file of the repository that a page names isn't there; where FORMATS.md has other bytes of a cluster's digest and
+a signed letter than Python's hashes give. Figures of time and speed are measured and can't be counted again."""
 import ast
 import hashlib
 import hmac
