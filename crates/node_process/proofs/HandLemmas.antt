@@ -1,7 +1,7 @@
 -- What a node is handed of a group is what the group's items give it.
-use Rattle.std.proofs.Common.{◌≡◌, ◌++◌, ◌∷◌, [], List, ℕ, length, map, take, refl, sym, ap, ◌∙◌, subst}
+use Rattle.std.proofs.Common.{◌≡◌, ◌≤◌, ◌++◌, ◌∷◌, [], List, ℕ, length, map, take, refl, sym, ap, ◌∙◌, subst, arith}
 use Rattle.std.proofs.Math.Seq.{take-append_seam}
-use Rattle.std.proofs.lemmas.List.{length-map}
+use Rattle.std.proofs.lemmas.List.{length-append, length-map, take-append-le, take-take}
 use Rattle.protocol.specs.declared.nodes.NodeId.{NodeId}
 use Rattle.node_core.specs.declared.output.Input.{Input}
 use Rattle.node_core.specs.declared.output.Input.TheVariants as inputs
@@ -29,7 +29,10 @@ handed_inputs who given items same = given_items who given ∙ ap (map (item_giv
 pub handed_count : (given : List Input) (items : List Item) → map given_of given ≡ handed_of items → length given ≡ length (handed_of items)
 handed_count given items same = sym (length-map given given_of) ∙ ap length same
 
--- the first of a list, so many as there are of another that stands in front of it, are these
-pub front_all : {X : Type 0} (front behind : List X) (len : ℕ) → length front ≡ len → take len (front ++ behind) ≡ front
-front_all {X} front behind len same =
-    subst (λ (n : ℕ). take n (front ++ behind) ≡ front) same (take-append_seam front behind)
+-- the first of a list that is cut behind them, so many as there are of another that stands in front of all, are these
+pub front_all : {X : Type 0} (front rest behind : List X) (count len : ℕ) → length front ≡ count → count ≤ len
+    → take count (take len ((front ++ rest) ++ behind)) ≡ front
+front_all {X} front rest behind count len same within =
+    take-take count len ((front ++ rest) ++ behind) within
+    ∙ take-append-le count (front ++ rest) behind (omega (arith, length-append front rest))
+    ∙ subst (λ (n : ℕ). take n (front ++ rest) ≡ front) same (take-append_seam front rest)

@@ -1,6 +1,6 @@
 //! A group of inputs is handed to the node.
 
-ghost use Rattle.std.specs.Prelude.{◌≡◌, map, length, IfOk, OnOk, OnErr};
+ghost use Rattle.std.specs.Prelude.{◌≡◌, ◌≤◌, map, take, length, IfOk, OnOk, OnErr};
 ghost use Rattle.node_process.specs.Handing.{given_of, handed_of, Hands, IsUnhanded};
 
 use letter_port::LetterPort;
@@ -41,35 +41,37 @@ pub(crate) fn replies_of<'a>(
     Ok(replies)
 }
 
-/// There are just so many places for what comes of inputs.
-fn fit(outs: &mut Vec<Output>, count: usize) -> Result<(), AllocError>
-    ensures { OnOk result (length outs.new.items ≡ count) }
+/// There are as many places for what comes of inputs, or more: they are kept, since to make one anew costs more than an input does.
+fn make_places(outs: &mut Vec<Output>, count: usize) -> Result<(), AllocError>
+    ensures { OnOk result (count ≤ length outs.new.items) }
 {
-    outs.truncate(count);
     for _ in outs.len()..count {
         outs.push(Output::nothing())?;
     }
-    if outs.len() != count {
+    if outs.len() < count {
         return Err(AllocError);
     }
     Ok(())
 }
 
-/// The items are handed to the node as one group: one append for all that they store. Then what came of them is sent, in letters. What came
-/// of each input stands in its place of `outs`, which has no others. Refused: there was no memory for the group, and nothing has happened
-/// (`NoMemory`); or as `LetterPort::call_all` is, and then nothing is sent.
+/// The items are handed to the node as one group: one append for all that they store. Then what came of them is sent, in letters. How many
+/// of them were inputs: what came of each stands in its place among the first of `outs`, of which there are as many or more. Refused: there
+/// was no memory for the group, and nothing has happened (`NoMemory`); or as `LetterPort::call_all` is, and then nothing is sent.
 pub(crate) fn hand<R: Record, P: Port>(
     alloc: Global,
     node: &mut Member<R>,
     port: &mut LetterPort<P>,
     items: &[Item],
     outs: &mut Vec<Output>,
-) -> Result<(), Refusal>
-    ensures hands { OnOk result (Hands P.sent items.now node.old node.new port.old port.new outs.new.items) }
+) -> Result<usize, Refusal>
+    ensures hands { IfOk result (λ count. Hands P.sent items.now node.old node.new port.old port.new (take count outs.new.items)) }
+    ensures within { IfOk result (λ count. count ≤ length outs.new.items) }
     ensures unhanded { OnErr result (IsUnhanded items.now node.old node.new × (port.new ≡ port.old)) }
 {
     let inputs = inputs_of(alloc, items)?;
-    fit(outs, inputs.len())?;
-    port.call_all(node, &inputs, outs)?;
-    Ok(())
+    let count = inputs.len();
+    make_places(outs, count)?;
+    let (places, _) = outs.split_at_mut(count);
+    port.call_all(node, &inputs, places)?;
+    Ok(count)
 }

@@ -1,6 +1,7 @@
 //! The process of a node.
 
-ghost use Rattle.std.specs.Prelude.{◌≡◌, ◌⊎◌, List, [], true, false, Result as ResultParts, Ok, IfOk, OnOk, OnErr, MatchOption};
+ghost use Rattle.std.specs.Prelude.{◌≡◌, ◌⊎◌, ◌≤◌, List, [], true, false, Result as ResultParts, Ok, IfOk, OnOk, OnErr, MatchOption};
+ghost use Rattle.std.specs.Prelude.{take, length};
 ghost use Rattle.std.specs.List.{AllByRecursion};
 ghost use Rattle.xid.specs.declared.refusals.Refusal.{Refusal as RefusalParts};
 ghost use Rattle.floors.specs.Worlds.{is_manager};
@@ -39,7 +40,7 @@ pub struct Process<R: Record, P> {
     pub port: LetterPort<P>,
     /// What it keeps beside them.
     pub desk: Desk,
-    /// Places for what comes of a group.
+    /// Places for what comes of a group, as many as the largest had inputs.
     pub outs: Vec<Output>,
 }
 
@@ -96,24 +97,27 @@ impl<R: Record, P: Port> Process<R, P> {
         Ok(())
     }
 
-    /// What came of the items of a group is noted, and each client is told what its own are answered, in order. Refused: memory ran out or
-    /// the record failed, and clients were told the first of these answers at most.
+    /// What came of the items of a group, of which so many were inputs, is noted, and each client is told what its own are answered, in
+    /// order. Refused: memory ran out or the record failed, and clients were told the first of these answers at most.
     fn answer_all<G: Gauges<P>>(
         &mut self,
         gauges: &G,
         items: &[Item],
+        count: usize,
         now: Instant,
     ) -> Result<(), Refusal>
-        ensures answers { OnOk result (Answers P.sent now items.now self.old.outs.items self.old.desk self.new.desk self.old.node
-            self.new.node self.old.port self.new.port) }
+        requires { count ≤ length self.old.outs.items }
+        ensures answers { OnOk result (Answers P.sent now items.now (take count self.old.outs.items) self.old.desk self.new.desk
+            self.old.node self.new.node self.old.port self.new.port) }
         ensures pending { self.new.desk.pending ≡ self.old.desk.pending }
         ensures count { self.new.desk.clients.count ≡ self.old.desk.clients.count }
         ensures ends { OnErr result (AreUntold self.old.desk.clients.seats self.new.desk.clients.seats
-            ⊎ AnswersSome P.sent self.old.desk.terms items.now self.old.outs.items self.old.desk.clients.seats
+            ⊎ AnswersSome P.sent self.old.desk.terms items.now (take count self.old.outs.items) self.old.desk.clients.seats
             self.new.desk.clients.seats self.old.node self.new.node self.old.port self.new.port) }
     {
+        let outs = &self.outs[..count];
         self.desk.notes.has_clients = !self.desk.clients.seats.is_empty();
-        self.desk.notes.note_all(items, &self.outs, now)?;
+        self.desk.notes.note_all(items, outs, now)?;
         let said = say_all(
             &mut self.node,
             &mut self.port,
@@ -122,7 +126,7 @@ impl<R: Record, P: Port> Process<R, P> {
             items,
             now,
         )?;
-        let replies = replies_of(self.desk.alloc, &self.outs)?;
+        let replies = replies_of(self.desk.alloc, outs)?;
         self.desk.clients.tell_all(items, &replies, &said)?;
         begin_awaits(
             self.desk.alloc,
@@ -148,7 +152,7 @@ impl<R: Record, P: Port> Process<R, P> {
         if is_nothing(&items) {
             return Ok(());
         }
-        hand(
+        let count = hand(
             self.desk.alloc,
             &mut self.node,
             &mut self.port,
@@ -156,7 +160,7 @@ impl<R: Record, P: Port> Process<R, P> {
             &mut self.outs,
         )?;
         self.desk.count_group(gauges.record_len()?);
-        self.answer_all(gauges, &items, now)
+        self.answer_all(gauges, &items, count, now)
     }
 
     /// The awaits whose time has come are answered, and the lines behind them are looked at again. All are asked from time to time, since a

@@ -1,4 +1,4 @@
-use Rattle.std.proofs.Common.{◌∙◌, List, ℕ, Bor, Vec, refl, ap, map, subst, inl, inr}
+use Rattle.std.proofs.Common.{◌∙◌, List, ℕ, Bor, Vec, refl, ap, map, take, subst, inl, inr}
 use Rattle.std.specs.declared.alloc.Global.{Global}
 use Rattle.protocol.specs.declared.answers.Answer.{Answer}
 use Rattle.node_core.specs.declared.output.Output.{Output}
@@ -16,16 +16,17 @@ returns-clause-answers g c =
       said = c.in_ok-said.said.items;
       says = c.in_ok-said.ensures;
       replies = c.in_ok-replies.replies.items;
-      replies_are = c.in_ok-replies.ensures ∙ ap (map (λ (out : Output). out.reply)) c.deref-2.ensures.value;
+      replies_are = c.in_ok-replies.ensures
+          ∙ ap (λ (all : List Output). map (λ (out : Output). out.reply) (take c.args.count all)) c.deref.ensures.value;
       told = after;
       tells = subst (λ (said : List (Vec ℕ Global)). AreTold before after (answers_to items c.in_ok-replies.replies.items said))
-          c.deref-4.ensures.value
-          (subst (λ (replies : List (Bor Answer)). AreTold before after (answers_to items replies c.deref-4.result.now))
-          c.deref-3.ensures.value c.in_ok-tell_all.ensures.ok);
+          c.deref-3.ensures.value
+          (subst (λ (replies : List (Bor Answer)). AreTold before after (answers_to items replies c.deref-3.result.now))
+          c.deref-2.ensures.value c.in_ok-tell_all.ensures.ok);
       until = c.awaited_until.result;
       long = c.awaited_until.ensures;
       begins = c.in_ok-begin_awaits.ensures.ok;
-      branches = subst (λ (outs : List Output). NotesAll c.args.now items outs c.args.self.now.desk.notes.branches
+      branches = subst (λ (all : List Output). NotesAll c.args.now items (take c.args.count all) c.args.self.now.desk.notes.branches
           c.note_all.new.self.branches) c.deref.ensures.value c.in_ok-note_all.ensures;
       terms = refl;
     }
@@ -39,12 +40,13 @@ returns-in_err-tell_all-clause-ends g c =
       said = c.in_ok-said.said.items;
       says = c.in_ok-said.ensures;
       replies = c.in_ok-replies.replies.items;
-      replies_are = c.in_ok-replies.ensures ∙ ap (map (λ (out : Output). out.reply)) c.deref-2.ensures.value;
+      replies_are = c.in_ok-replies.ensures
+          ∙ ap (λ (all : List Output). map (λ (out : Output). out.reply) (take c.args.count all)) c.deref.ensures.value;
       told = after;
       tells = subst (λ (said : List (Vec ℕ Global)). AreToldSome before after (answers_to items c.in_ok-replies.replies.items said))
-          c.deref-4.ensures.value
-          (subst (λ (replies : List (Bor Answer)). AreToldSome before after (answers_to items replies c.deref-4.result.now))
-          c.deref-3.ensures.value c.in_err-tell_all.ensures.err);
+          c.deref-3.ensures.value
+          (subst (λ (replies : List (Bor Answer)). AreToldSome before after (answers_to items replies c.deref-3.result.now))
+          c.deref-2.ensures.value c.in_err-tell_all.ensures.err);
       no_more = untold_none after;
     }))
 
@@ -57,13 +59,14 @@ returns-in_err-begin_awaits-clause-ends g c =
       said = c.in_ok-said.said.items;
       says = c.in_ok-said.ensures;
       replies = c.in_ok-replies.replies.items;
-      replies_are = c.in_ok-replies.ensures ∙ ap (map (λ (out : Output). out.reply)) c.deref-2.ensures.value;
+      replies_are = c.in_ok-replies.ensures
+          ∙ ap (λ (all : List Output). map (λ (out : Output). out.reply) (take c.args.count all)) c.deref.ensures.value;
       told = after;
       tells = told_whole before after (answers_to items c.in_ok-replies.replies.items c.in_ok-said.said.items)
           (subst (λ (said : List (Vec ℕ Global)). AreTold before after (answers_to items c.in_ok-replies.replies.items said))
-          c.deref-4.ensures.value
-          (subst (λ (replies : List (Bor Answer)). AreTold before after (answers_to items replies c.deref-4.result.now))
-          c.deref-3.ensures.value c.in_ok-tell_all.ensures.ok));
+          c.deref-3.ensures.value
+          (subst (λ (replies : List (Bor Answer)). AreTold before after (answers_to items replies c.deref-3.result.now))
+          c.deref-2.ensures.value c.in_ok-tell_all.ensures.ok));
       no_more = c.begin_awaits.ensures.untold;
     }))
 

@@ -1,4 +1,4 @@
-use Rattle.std.proofs.Common.{◌≡◌, ◌∙◌, [], List, ap, sym, subst, inl, inr}
+use Rattle.std.proofs.Common.{◌≡◌, ◌∙◌, [], List, take, ap, sym, subst, inl, inr}
 use Rattle.std.proofs.lemmas.Result.{on_err_weaker, on_ok_weaker}
 use Rattle.letter_port.specs.LetterPorts.{LetterParts}
 use Rattle.serving.specs.declared.group.Item.{Item}
@@ -27,18 +27,18 @@ returns-in_err-items-clause-ends g c =
       untold = c.gather.ensures.untold;
     }))
 
-pub returns-in_err-hand-clause-ends : goal.returns-in_err-hand-clause-ends
-returns-in_err-hand-clause-ends g c =
+pub returns-in_err-count-clause-ends : goal.returns-in_err-count-clause-ends
+returns-in_err-count-clause-ends g c =
     let old = c.args.self.now in
     let items = c.in_ok-items.items.items in
-    on_err_all c.from_residual-in_err-hand.result _ (inr (inl (record {
+    on_err_all c.from_residual-in_err-count.result _ (inr (inl (record {
       asked = c.gather.new.node;
       asks = c.gather.ensures.asks;
       items = items;
       gathered = subst (λ (port : LetterParts _). AreGathered g.P.Port.received c.args.now old.desk c.gather.new.desk old.node
-          c.gather.new.node old.port port items) (sym c.in_err-hand.ensures.unhanded.1) c.in_ok-items.ensures.gathered;
+          c.gather.new.node old.port port items) (sym c.in_err-count.ensures.unhanded.1) c.in_ok-items.ensures.gathered;
       unhanded = subst (λ (all : List Item). IsUnhanded all c.gather.new.node c.hand.new.node) c.deref-2.ensures.value
-          c.in_err-hand.ensures.unhanded.0;
+          c.in_err-count.ensures.unhanded.0;
       untold = c.gather.ensures.untold;
     })))
 
@@ -54,9 +54,9 @@ returns-in_err-record_len-clause-ends g c =
       gathered = c.in_ok-items.ensures.gathered;
       handed = c.hand.new.node;
       sent = c.hand.new.port;
-      outs = c.hand.new.outs.items;
+      outs = take c.in_ok-count.count c.hand.new.outs.items;
       hands = subst (λ (all : List Item). Hands g.P.Port.sent all c.gather.new.node c.hand.new.node c.gather.new.port c.hand.new.port
-          c.hand.new.outs.items) c.deref-2.ensures.value c.in_ok-hand.ensures.hands;
+          (take c.in_ok-count.count c.hand.new.outs.items)) c.deref-2.ensures.value c.in_ok-count.ensures.hands;
       told = inl (untold_none c.gather.new.desk.clients.seats);
     })))
 
@@ -66,7 +66,7 @@ returns-clause-ends g c =
     let items = c.in_ok-items.items.items in
     let counted = c.count_group.new.self in
     let heard = c.gather.new.desk.clients.seats in
-    let outs = c.hand.new.outs.items in
+    let outs = take c.in_ok-count.count c.hand.new.outs.items in
     let terms_is : counted.terms ≡ old.desk.terms = ap (λ (d : Desk). d.terms) c.count_group.ensures ∙ c.in_ok-items.ensures.terms in
     let seats_is : counted.clients.seats ≡ heard = ap (λ (d : Desk). d.clients.seats) c.count_group.ensures in
     on_err_weaker c.answer_all.result (λ ends. inr (inr (record {
@@ -80,7 +80,7 @@ returns-clause-ends g c =
       sent = c.hand.new.port;
       outs = outs;
       hands = subst (λ (all : List Item). Hands g.P.Port.sent all c.gather.new.node c.hand.new.node c.gather.new.port c.hand.new.port outs)
-          c.deref-2.ensures.value c.in_ok-hand.ensures.hands;
+          c.deref-2.ensures.value c.in_ok-count.ensures.hands;
       told = ends_in g.P.Port.sent c.deref-3.result.now items outs counted.terms old.desk.terms counted.clients.seats heard
           c.answer_all.new.self.desk.clients.seats c.hand.new.node c.answer_all.new.self.node c.hand.new.port c.answer_all.new.self.port
           c.deref-3.ensures.value terms_is seats_is ends;
@@ -93,17 +93,17 @@ returns-clause-works g c =
     let counted = c.count_group.new.self in
     let some : items ≡ [] → ⊥ =
     λ none. c.is_nothing.ensures.some c.if-is_nothing.false (c.deref.ensures.value ∙ none) in
-    let hands : Hands g.P.Port.sent items c.gather.new.node c.hand.new.node c.gather.new.port c.hand.new.port c.hand.new.outs.items =
-    subst (λ (all : List Item). Hands g.P.Port.sent all c.gather.new.node c.hand.new.node c.gather.new.port c.hand.new.port
-    c.hand.new.outs.items) c.deref-2.ensures.value c.in_ok-hand.ensures.hands in
+    let outs = take c.in_ok-count.count c.hand.new.outs.items in
+    let hands : Hands g.P.Port.sent items c.gather.new.node c.hand.new.node c.gather.new.port c.hand.new.port outs =
+    subst (λ (all : List Item). Hands g.P.Port.sent all c.gather.new.node c.hand.new.node c.gather.new.port c.hand.new.port outs) c.deref-2.ensures.value c.in_ok-count.ensures.hands in
     on_ok_weaker c.answer_all.result (λ answers.
     works_some g.P.Port.received g.P.Port.sent c.args.now old.desk c.gather.new.desk counted c.answer_all.new.self.desk
     old.node c.gather.new.node c.hand.new.node c.answer_all.new.self.node old.port c.gather.new.port c.hand.new.port
-    c.answer_all.new.self.port items c.hand.new.outs.items c.gather.ensures.asks c.in_ok-items.ensures.gathered some hands
+    c.answer_all.new.self.port items outs c.gather.ensures.asks c.in_ok-items.ensures.gathered some hands
     (ap (λ (d : Desk). d.terms) c.count_group.ensures ∙ c.in_ok-items.ensures.terms)
     (ap (λ (d : Desk). d.clients.seats) c.count_group.ensures)
     (ap (λ (d : Desk). d.notes.branches) c.count_group.ensures ∙ c.in_ok-items.ensures.branches)
     (c.answer_all.ensures.pending ∙ ap (λ (d : Desk). d.pending) c.count_group.ensures)
-    (subst (λ (all : List Item). Answers g.P.Port.sent c.args.now all c.hand.new.outs.items counted c.answer_all.new.self.desk
+    (subst (λ (all : List Item). Answers g.P.Port.sent c.args.now all outs counted c.answer_all.new.self.desk
     c.hand.new.node c.answer_all.new.self.node c.hand.new.port c.answer_all.new.self.port) c.deref-3.ensures.value answers))
     c.answer_all.ensures.answers
