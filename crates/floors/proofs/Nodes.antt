@@ -7,7 +7,6 @@ use Rattle.std.proofs.lemmas.Bool.{cond_both}
 use Rattle.std.proofs.lemmas.List.{append-nil}
 use Rattle.xid.specs.Names.{XidParts, xid_eq}
 use Rattle.xid.specs.Transactions.{TxParts, tx_eq, xid_at}
-use Rattle.xid.specs.declared.transaction.Vote.TheVariants as votes
 use Rattle.xid.specs.declared.refusals.Refusal.TheVariants.{NoSuch}
 use Rattle.xid.proofs.Deciding.{tx_decides}
 use Rattle.wire.specs.Messages.{message_tx}

@@ -11,7 +11,7 @@ use Rattle.stable_record.specs.Frames.{frame_length}
 use Rattle.protocol.specs.Basics.{Fact}
 use Rattle.safety.specs.Vocabulary.{NodeId, A, L, R, Done, Refused}
 use Rattle.protocol.specs.Effects.{Config, Effect}
-use Rattle.protocol.specs.Facts.{view, with_fact}
+use Rattle.protocol.specs.Facts.{with_fact}
 use Rattle.protocol.specs.Nodes.{NodeState, Memory, empty_memory, Input, Fault, NoFault, NoMemoryBefore, NoMemoryAt, RecordFails}
 use Rattle.protocol.specs.Nodes.{Outcome, accepts_input, answer_outcome, down_node, down_answer, stopped_append, finished_append}
 use Rattle.protocol.specs.Nodes.{effect_outcome, effect_of, in_memory, node_step, plays, all_play, restart_outcome, compact_outcome}
