@@ -41,7 +41,7 @@ pub(crate) fn replies_of<'a>(
     Ok(replies)
 }
 
-/// There are as many places for what comes of inputs, or more: they are kept, since to make one anew costs more than an input does.
+/// There are as many places for what comes of inputs, or more: they are large, and are kept from group to group.
 fn make_places(outs: &mut Vec<Output>, count: usize) -> Result<(), AllocError>
     ensures { OnOk result (count ≤ length outs.new.items) }
 {

@@ -95,7 +95,8 @@ returns-clause-works g c =
     λ none. c.is_nothing.ensures.some c.if-is_nothing.false (c.deref.ensures.value ∙ none) in
     let outs = take c.in_ok-count.count c.hand.new.outs.items in
     let hands : Hands g.P.Port.sent items c.gather.new.node c.hand.new.node c.gather.new.port c.hand.new.port outs =
-    subst (λ (all : List Item). Hands g.P.Port.sent all c.gather.new.node c.hand.new.node c.gather.new.port c.hand.new.port outs) c.deref-2.ensures.value c.in_ok-count.ensures.hands in
+    subst (λ (all : List Item). Hands g.P.Port.sent all c.gather.new.node c.hand.new.node c.gather.new.port c.hand.new.port
+    outs) c.deref-2.ensures.value c.in_ok-count.ensures.hands in
     on_ok_weaker c.answer_all.result (λ answers.
     works_some g.P.Port.received g.P.Port.sent c.args.now old.desk c.gather.new.desk counted c.answer_all.new.self.desk
     old.node c.gather.new.node c.hand.new.node c.answer_all.new.self.node old.port c.gather.new.port c.hand.new.port
