@@ -1,7 +1,7 @@
 #!/usr/bin/env python3
 """A cluster with timed names over so many transactions that it would be full if it kept them, while its processes are killed: years.py
-PROGRAM [TRANSACTIONS [SEED]]. Clients of bench/clients.c do most of them, at a rate that is a part of what they could do at first, since
-what is kept follows it; others move money between accounts at both managers, and read the sum. What is checked:
+PROGRAM [TRANSACTIONS [SEED]]. Clients of bench/clients.c do most of them, as fast as they can; others move money between accounts at both
+managers, and read the sum. What is checked:
   - each sum that was read, and the sum of the last tables, is the first sum
   - what each process has in memory, and its record, is level after the first tenth: the mean of each tenth is within a fifth of
     that of all, and a megabyte
@@ -28,8 +28,6 @@ from cluster import build_clients
 # transactions that are alive: so many of the latest
 ALIVE = 20000
 CLIENTS, LANES = 32, 4
-# what part of the rate at first is kept to, and for how many seconds clients are told at once what they may do
-PART, ROUND = 0.6, 2
 ACCOUNTS, FIRST = 8, 1000
 # how many milliseconds a branch is left that a client has ended and left: so long it holds a floor back
 IDLE = 1000
@@ -38,11 +36,10 @@ PAUSE, SOON = 6.0, 0.2
 
 
 class Hasty:
-    """Clients that go on until a node is gone, at a rate or as fast as they can: `count` of all they did, and how many were committed."""
+    """Clients that go on until a node is gone: `count` of all they did, and how many of these were committed."""
 
-    def __init__(self, program, cluster, rate=None):
+    def __init__(self, program, cluster):
         self.program, self.cluster = program, cluster
-        self.most = max(1, int(rate * ROUND / CLIENTS)) if rate else 1 << 40
         self.count, self.committed, self.serial = 0, 0, 0
 
     def sockets(self):
@@ -56,7 +53,7 @@ class Hasty:
         held = {number: self.sockets() for number in numbers}
         words = ['%d=%s' % (number, ','.join(str(one.fileno()) for one in ends)) for number, ends in held.items()]
         sockets = [one for ends in held.values() for one in ends]
-        run = subprocess.Popen([self.program, 'timed', str(seconds), str(self.most), str(self.serial << 32), '-', *words], text=True,
+        run = subprocess.Popen([self.program, 'timed', str(seconds), str(1 << 40), str(self.serial << 32), '-', *words], text=True,
                                stdin=subprocess.PIPE, stdout=subprocess.PIPE, pass_fds=[one.fileno() for one in sockets])
         for one in sockets:
             one.close()
@@ -65,7 +62,7 @@ class Hasty:
     def run(self, seconds):
         """For a while, or until the nodes that they work at are gone."""
         self.serial += 1
-        runs, begun, before = [], time.monotonic(), self.count
+        runs = []
         try:
             for lane in range(LANES):
                 runs.append(self.start(range(lane, CLIENTS, LANES), seconds))
@@ -83,8 +80,6 @@ class Hasty:
             committed, other = map(int, run.communicate()[0].split() or (0, 0))
             self.count += committed + other
             self.committed += committed
-        if self.count - before >= CLIENTS * self.most:
-            time.sleep(max(0, begun + seconds - time.monotonic()))
 
 
 class Mover(threading.Thread):
@@ -188,7 +183,7 @@ def live(cluster, hasty, movers, count, chance):
     for one in (*movers, killer):
         one.start()
     while hasty.count < count and killer.is_alive():
-        hasty.run(ROUND)
+        hasty.run(2)
         levels.note(min(9, 10 * hasty.count // count))
     stopping.set()
     for one in movers:
@@ -216,22 +211,22 @@ def main(program, count=100000, seed=1):
         print('years: 0 passed, 0 failed')
         return
     clients = build_clients(folder)
-    # a rate is measured first, so that about as many are alive as wanted, also where the machine is busier for a while
+    # a rate is measured first, so that about as many are alive as wanted
     with Processes(program, os.path.join(folder, 'rate'), tables=tables(), names={'keep': 600000}) as cluster:
         cluster.start()
         hasty = Hasty(clients, cluster)
         hasty.run(3)
-        rate = PART * hasty.count / 3
+        rate = hasty.count / 3
     keep = max(1000, int(1000 * ALIVE / rate / 1.5))
     with Processes(program, os.path.join(folder, 'nodes'), tables=tables(), names={'keep': keep}, clock={'idle': IDLE}) as cluster:
         cluster.start()
-        hasty, movers = Hasty(clients, cluster, rate), [Mover(cluster.file, number) for number in range(4)]
+        hasty, movers = Hasty(clients, cluster), [Mover(cluster.file, number) for number in range(4)]
         levels, killed = live(cluster, hasty, movers, count, chance)
         took, last = starts(cluster), total(cluster)
         sizes = {name: (1024 * cluster.memory(name), len(cluster.record(name))) for name in cluster.names}
     wrong = [fault for one in movers for fault in one.wrong]
     moves, sums = sum(one.moves for one in movers), sum(one.sums for one in movers)
-    print('years: %d transactions, %d committed, at most %.0f a second, kept for %d ms; %d transfers and %d sums beside; %d kills; '
+    print('years: %d transactions, %d committed, %.0f a second at first, kept for %d ms; %d transfers and %d sums beside; %d kills; '
           'in %.0f s' % (hasty.count, hasty.committed, rate, keep, moves, sums, sum(killed.values()), time.time() - begun))
     for name in cluster.names:
         said = ['%s MB, %.1f at most' % (' '.join('%.1f' % (mean / 1e6) for mean in levels.means(name, what)),
