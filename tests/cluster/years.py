@@ -3,8 +3,9 @@
 PROGRAM [TRANSACTIONS [SEED]]. Clients of bench/clients.c do most of them, as fast as they can; others move money between accounts at both
 managers, and read the sum. What is checked:
   - each sum that was read, and the sum of the last tables, is the first sum
-  - what each process has in memory, and its record, is level after the first tenth: the mean of each tenth is within a fifth of
-    that of all, and a megabyte
+  - what processes have in memory, and their records, doesn't rise after the first tenth: of acceptors, leaders and managers, the straight
+    line through the means of the tenths rises by at most a fifth of their mean, or a megabyte. A process that was killed has less for a
+    while, and what is kept for a time follows the rate, so single tenths of single processes say little
   - at the end each process listens within 0.2 s of its start
 Needs Debian's libpq-dev, which the clients are built with; without it nothing is run, and that is said."""
 import collections
@@ -134,9 +135,10 @@ class Levels:
     """What each process has in memory, and its record, by tenths of the whole: means, and at most."""
 
     def __init__(self, cluster):
-        self.cluster, self.found = cluster, [collections.defaultdict(list) for _ in range(10)]
+        self.cluster, self.found, self.seconds = cluster, [collections.defaultdict(list) for _ in range(10)], [0] * 10
 
-    def note(self, tenth):
+    def note(self, tenth, seconds):
+        self.seconds[tenth] += seconds
         for name in self.cluster.names:
             try:
                 record = os.path.getsize(os.path.join(self.cluster.records, name + '.rec'))
@@ -149,21 +151,34 @@ class Levels:
 
     def means(self, *what):
         """Of the tenths after the first, of which any was seen."""
-        return [sum(tenth[what]) / len(tenth[what]) for tenth in self.found[1:] if tenth[what]] or [0]
+        return [mean(tenth[what]) for tenth in self.found[1:] if tenth[what]] or [0]
 
     def most(self, *what):
         return max(max(tenth[what], default=0) for tenth in self.found)
 
-    def apart(self):
-        """What isn't level after the first tenth, within a fifth, above the little that every process has."""
+    def rises(self):
+        """What rises after the first tenth: of each kind of process, by how much, and the means of the tenths."""
         wrong = []
-        for name in self.cluster.names:
+        for kind in 'alr':
+            names = [name for name in self.cluster.names if name[0] == kind]
             for what in ('memory', 'record'):
-                means = self.means(name, what)
-                level = sum(means) / len(means)
-                if max(abs(mean - level) for mean in means) > max(level / 5, 1 << 20):
-                    wrong.append('%s of %s: %s MB' % (what, name, ' '.join('%.1f' % (mean / 1e6) for mean in means)))
+                found = [[mean(tenth[name, what]) for name in names if tenth[name, what]] for tenth in self.found[1:]]
+                means = [mean(some) for some in found if some]
+                if rise(means) > max(mean(means) / 5, 1 << 20):
+                    wrong.append('%s of %s rises by %.1f MB: %s' % (
+                        what, ' '.join(names), rise(means) / 1e6, ' '.join('%.1f' % (one / 1e6) for one in means)))
         return wrong
+
+
+def mean(numbers):
+    return sum(numbers) / len(numbers) if numbers else 0
+
+
+def rise(means):
+    """By how much the straight line through these, by least squares, rises from the first to the last."""
+    middle = (len(means) - 1) / 2
+    square = sum((place - middle) ** 2 for place in range(len(means)))
+    return 2 * middle * sum((place - middle) * one for place, one in enumerate(means)) / square if square else 0
 
 
 def kill_along(cluster, chance, killed, stopping):
@@ -183,8 +198,9 @@ def live(cluster, hasty, movers, count, chance):
     for one in (*movers, killer):
         one.start()
     while hasty.count < count and killer.is_alive():
+        begun = time.monotonic()
         hasty.run(2)
-        levels.note(min(9, 10 * hasty.count // count))
+        levels.note(min(9, 10 * hasty.count // count), time.monotonic() - begun)
     stopping.set()
     for one in movers:
         one.stopping.set()
@@ -228,18 +244,19 @@ def main(program, count=100000, seed=1):
     moves, sums = sum(one.moves for one in movers), sum(one.sums for one in movers)
     print('years: %d transactions, %d committed, %.0f a second at first, kept for %d ms; %d transfers and %d sums beside; %d kills; '
           'in %.0f s' % (hasty.count, hasty.committed, rate, keep, moves, sums, sum(killed.values()), time.time() - begun))
+    print('years: by tenths %s a second' % ' '.join('%.0f' % (count / 10 / max(0.1, seconds)) for seconds in levels.seconds))
     for name in cluster.names:
         said = ['%s MB, %.1f at most' % (' '.join('%.1f' % (mean / 1e6) for mean in levels.means(name, what)),
                                          levels.most(name, what) / 1e6) for what in ('memory', 'record')]
         print('years: %s: memory by tenths after the first %s; record %s; at the end %.1f and %.1f; it listens after %.3f s' % (
             name, *said, *(size / 1e6 for size in sizes[name]), took[name]))
-    for one in (*wrong[:5], *levels.apart()):
+    for one in (*wrong[:5], *levels.rises()):
         print('years: WRONG: %s' % (one,))
     shutil.rmtree(folder)
     finish('years', [('nothing is wrong', not wrong), ('the sum is right', last == 2 * ACCOUNTS * FIRST),
                      ('it came to its end', hasty.count >= count), ('most were committed', 10 * hasty.committed > 9 * hasty.count),
                      ('money was moved', moves > 100 and sums > 3), ('processes were killed', sum(killed.values()) > count // 200000),
-                     ('levels stay', not levels.apart()), ('starts are quick', max(took.values()) < SOON)])
+                     ("levels don't rise", not levels.rises()), ('starts are quick', max(took.values()) < SOON)])
 
 
 if __name__ == '__main__':
