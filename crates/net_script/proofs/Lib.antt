@@ -2,6 +2,7 @@ pub mod Arms
 pub mod EventLemmas
 pub mod MessageLemmas
 pub mod ScriptLemmas
+pub mod SpelledText
 pub mod LawLemmas
 pub mod TraceLemmas
 pub mod WordLemmas

@@ -36,6 +36,10 @@ fn put_lettered(out: &mut Vec<u8>, letter: u8, number: u32) -> Result<(), Refusa
     ensures puts { Puts out.old.items out.new.items result (32 ∷ letter ∷ decimal number) }
     ensures kept { OnErr result (Extends out.old.items out.new.items) }
 {
+    if number < 10 {
+        out.extend_from_slice(&[b' ', letter, b'0' + number as u8])?;
+        return Ok(());
+    }
     out.push(b' ')?;
     out.push(letter)?;
     text::put_number(number, out)?;

@@ -1,5 +1,5 @@
 -- A place is taken again, as a name begins, and what is taken was spelled.
--- Needed by `put_place`; Ends and Notices; crates stable_record and floored.
+-- Needed by `put_place`; Ends and Notices; crates stable_record, floored and net_script.
 use Rattle.std.proofs.Common.{◌≡◌, ◌∙◌, ℕ, zero, suc, ◌≤◌, ◌<◌, ◌^◌, cond, ltb, List, [], ◌∷◌, ◌++◌, length, take, drop, Some, None}
 use Rattle.std.proofs.Common.{refl, sym, ap, subst, append_assoc, arith}
 use Rattle.std.proofs.lemmas.Bool.Decides.{nat_tests}

@@ -1,5 +1,5 @@
 -- What is taken was spelled: each field from the front of bytes.
--- Needed by `view_of`; 11 files here; crates stable_record, transactions, acceptor, leader, node_core and letters.
+-- Needed by `view_of`; 11 files here; 7 crates above.
 use Rattle.std.proofs.Common.{◌≡◌, ℕ, zero, suc, ◌/◌, ◌%◌, ◌≤◌, Bool, true, false, cond, eqb, ltb, List, [], ◌∷◌, ◌++◌}
 use Rattle.std.proofs.Common.{length, take, drop, Option, Some, None, refl, sym, subst, ap, ◌∙◌, append_assoc, arith, eqb-true}
 use Rattle.std.specs.List.{flat_map}

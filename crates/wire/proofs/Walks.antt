@@ -1,5 +1,5 @@
 -- Walking over the branches on their bytes.
--- Needed by 8 functions of this crate.
+-- Needed by 8 functions of this crate; crate net_script.
 use Rattle.std.proofs.Common.{◌≡◌, ◌≢◌, eqb, ℕ, zero, suc, ◌+◌, ◌-◌, ◌<◌, ◌≤◌, Bool, true, false, ltb, List, [], ◌∷◌, ◌++◌, length, take}
 use Rattle.std.proofs.Common.{drop, get_or, Option, Some, None, IsTrue, refl, sym, ap, ◌∙◌, arith, slice_index, slice_set}
 use Rattle.std.specs.Prelude.{is_some, nat_lt, not, ◌||◌, ◌&&◌, cond}

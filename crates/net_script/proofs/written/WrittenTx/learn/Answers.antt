@@ -10,7 +10,6 @@ invariant_of-self-2 c = λ is.
     let spelled : c.extend_from_slice.new.self.items ≡ tx_spelling version_2 c.args.tx.now =
     c.in_ok-extend_from_slice.ensures.items ∙ ap (λ (l : List ℕ). l ++ c.as_bytes.result.now) c.clear.ensures.items
     ∙ c.as_bytes.ensures.value in
-    c.in_ok-write.ensures.ok
-    ∙ ap (λ (l : List ℕ). l ++ tx_text c.to_tx.result) c.clear-2.ensures.items
-    ∙ ap tx_text (c.to_tx.ensures.value
-    ∙ sym (spelled_is c.extend_from_slice.new.self.items c.args.tx.now c.as_bytes.ensures.valid spelled))
+    c.in_ok-put_text.ensures.ok
+    ∙ ap (λ (l : List ℕ). l ++ tx_text c.args.tx.now) c.clear-2.ensures.items
+    ∙ ap tx_text (sym (spelled_is c.extend_from_slice.new.self.items c.args.tx.now c.as_bytes.ensures.valid spelled))
