@@ -28,7 +28,7 @@ pub fn command(alloc: Global, words: &[u8]) -> Result<Command, Stop> {
         Err(Refusal::NoMemory) => return Err(Stop::Ended),
         Err(_) => return Err(Stop::Unread),
     };
-    for command in script.commands.into_vec() {
+    for command in script.commands.into_vec(alloc)? {
         return Ok(command);
     }
     Err(Stop::Unread)

@@ -33,7 +33,7 @@ impl Part for Behind<'_> {
         match read_script(alloc, &text) {
             Ok(script) => {
                 page.number(script.tables.as_slice().len() as u64)?;
-                page.number(script.commands.as_slice().len() as u64)?;
+                page.number(script.commands.into_vec(alloc)?.len() as u64)?;
             }
             Err(Refusal::NoMemory) => return Err(Stop::Wanted),
             Err(refusal) => page.refusal(refusal)?,

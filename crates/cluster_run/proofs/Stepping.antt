@@ -1,6 +1,8 @@
 -- One event of a run, and one after another: the cluster stands for a world with floors.
 use Rattle.std.proofs.Common.{◌≡◌, ◌∙◌, ℕ, List, [], ◌∷◌, ◌++◌, length, Option, Some, None, refl, sym, ap, subst}
 use Rattle.std.proofs.Common.{◌+◌, ◌-◌, ◌<◌, ◌≤◌, inl, inr, arith}
+use Rattle.std.specs.List.{flat_map}
+use Rattle.std.proofs.lemmas.Grind.{flat_map-append}
 use Rattle.std.proofs.lemmas.List.{append-nil, length_push}
 use Rattle.safety.specs.Vocabulary.{Deliver, Event, Step}
 use Rattle.cluster_run.specs.Happenings.{IsOfMemory, AreOfMemory, IsNext, AreNext, IsFlow, IsDoneBy, AreDoneBy}
@@ -233,3 +235,57 @@ commands_short commands command others old middle first before out so short conf
       memory_more (done ++ one) rest (memory_more done one comes.faults memory) unmet,
       short_on config world first before out done one rest comes.prints printed,
     )
+
+-- ---- batches of commands
+
+-- the commands of batches and of one more
+one_batch_more : (batches : List (List Command)) (batch : List Command)
+    → flat_map (λ one. one) (batches ++ batch ∷ []) ≡ flat_map (λ one. one) batches ++ batch
+one_batch_more batches batch =
+    flat_map-append (λ one. one) batches (batch ∷ [])
+    ∙ ap (λ (last : List Command). flat_map (λ one. one) batches ++ last) (append-nil batch)
+
+-- one more batch
+pub batch_more : (batches : List (List Command)) (batch : List Command) (old middle new : ClusterParts) (first before after : Printed)
+    → GoesOn (λ config world. AreDoneBy config world (flat_map (λ one. one) batches)) old middle first before
+    → GoesOn (λ config world. AreDoneBy config world batch) middle new before after
+    → GoesOn (λ config world. AreDoneBy config world (flat_map (λ one. one) (batches ++ batch ∷ []))) old new first after
+batch_more batches batch old middle new first before after so then config world running =
+    let done = flat_map (λ one. one) batches in
+    let (happened, are, comes) = so config world running in
+    let (more, are_then, comes_then) = then config (floored_world_after config world happened) comes.running in (
+      happened ++ more,
+      subst (λ (commands : List Command). AreDoneBy config world commands (happened ++ more)) (sym (one_batch_more batches batch))
+          (done_on config world done batch happened more are are_then),
+      comes_on config world middle new first before after happened more comes comes_then,
+    )
+
+-- a batch on the way to whose end printing stops, and those after it
+pub batch_short : (batches : List (List Command)) (batch : List Command) (others : List (List Command)) (old middle : ClusterParts)
+    (first before : Printed) (out : Option (List ℕ))
+    → GoesOn (λ config world. AreDoneBy config world (flat_map (λ one. one) batches)) old middle first before
+    → FallsShort (λ config world. AreDoneBy config world batch) middle before out
+    → FallsShort (λ config world. AreDoneBy config world (flat_map (λ one. one) ((batches ++ batch ∷ []) ++ others))) old first out
+batch_short batches batch others old middle first before out so short config world running =
+    let done = flat_map (λ one. one) batches in
+    let rest = flat_map (λ one. one) others in
+    let (happened, are, comes) = so config world running in
+    let (some, are_then, memory, printed) = short config (floored_world_after config world happened) comes.running in
+    let (more, then, unmet) = commands_on config (floored_world_after config world (happened ++ some)) rest in (
+      (happened ++ some) ++ more,
+      subst (λ (commands : List Command). AreDoneBy config world commands ((happened ++ some) ++ more))
+          (sym
+          (flat_map-append (λ one. one) (batches ++ batch ∷ []) others
+          ∙ ap (λ (front : List Command). front ++ rest) (one_batch_more batches batch)))
+          (done_on config world (done ++ batch) rest (happened ++ some) more (done_on config world done batch happened some are are_then)
+          then),
+      memory_more (happened ++ some) more (memory_more happened some comes.faults memory) unmet,
+      short_on config world first before out happened some more comes.prints printed,
+    )
+
+-- none of the commands is carried out
+pub all_short : (commands : List Command) (old : ClusterParts) (piece : List ℕ) (out : Option (List ℕ))
+    → FallsShort (λ config world. AreDoneBy config world commands) old (so_far piece out) out
+all_short commands old piece out config world running =
+    let (happened, are, unmet) = commands_on config world commands in
+    (happened, are, unmet, prints_no_more (so_far piece out) (lines_from config world happened))

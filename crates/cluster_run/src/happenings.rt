@@ -11,7 +11,9 @@ ghost use Rattle.cluster_run.specs.Happenings.{IsFlow, IsDoneBy, AreDoneBy};
 ghost use Rattle.cluster_run.specs.Running.{GoesOn, Prints, PrintsShort, StopsIn, so_far};
 
 use cluster::{Answered, Cluster};
-use net_script::{Command, WrittenTx, write_answered, write_datagram, write_notice, write_text};
+use net_script::{
+    Command, Commands, WrittenTx, write_answered, write_datagram, write_notice, write_text,
+};
 use protocol::Event;
 use stable_record::MemRecord;
 use std::alloc::Global;
@@ -150,11 +152,11 @@ fn carry_out<W: Write>(
     }
 }
 
-/// What the commands make happen, one after another; what isn't printed yet is left in the piece. Refused: `NoMemory`, where there is none
-/// for the lines of an event, and as `write_text` is; then a beginning of these lines is printed at most.
-pub fn carry_out_all<W: Write>(
-    alloc: Global,
+/// What some commands make happen, one after another. Refused as `happen` is.
+fn carry_out_each<W: Write>(
     cluster: &mut Cluster<MemRecord>,
+    answered: &mut Answered,
+    written: &mut WrittenTx,
     piece: &mut Vec<u8>,
     out: &mut W,
     commands: Vec<Command>,
@@ -164,10 +166,38 @@ pub fn carry_out_all<W: Write>(
     ensures err { IfErr result (StopsIn (λ config world. AreDoneBy config world commands.items) cluster.old
         (so_far piece.old.items (W.contents out.old)) (W.contents out.new)) }
 {
+    for command in commands {
+        carry_out(cluster, answered, written, piece, out, command)?;
+    }
+    Ok(())
+}
+
+/// What the commands make happen, one after another; what isn't printed yet is left in the piece. Those that are done are let go, batch by
+/// batch. Refused: `NoMemory`, where there is none for the lines of an event, and as `write_text` is; then a beginning of these lines is
+/// printed at most.
+pub fn carry_out_all<W: Write>(
+    alloc: Global,
+    cluster: &mut Cluster<MemRecord>,
+    piece: &mut Vec<u8>,
+    out: &mut W,
+    commands: Commands,
+) -> Result<(), Refusal>
+    ensures ok { OnOk result (GoesOn (λ config world. AreDoneBy config world commands) cluster.old cluster.new
+        (so_far piece.old.items (W.contents out.old)) (so_far piece.new.items (W.contents out.new))) }
+    ensures err { IfErr result (StopsIn (λ config world. AreDoneBy config world commands) cluster.old
+        (so_far piece.old.items (W.contents out.old)) (W.contents out.new)) }
+{
     let mut answered = Answered::nothing();
     let mut written = WrittenTx::none(alloc);
-    for command in commands {
-        carry_out(cluster, &mut answered, &mut written, piece, out, command)?;
+    for batch in commands.into_batches()? {
+        carry_out_each(
+            cluster,
+            &mut answered,
+            &mut written,
+            piece,
+            out,
+            batch.into_vec(),
+        )?;
     }
     Ok(())
 }

@@ -75,7 +75,7 @@ fn run_script<W: Write>(
     let mut cluster = opened(alloc, &config)?;
     let mut piece = Vec::new(alloc);
     write_head(&mut piece, sizes, first)?;
-    carry_out_all(alloc, &mut cluster, &mut piece, out, commands.into_vec())?;
+    carry_out_all(alloc, &mut cluster, &mut piece, out, commands)?;
     let finals = match final_rows(alloc, &mut cluster, config.sizes().managers) {
         Ok(finals) => finals,
         Err(refusal) => return Err(refusal),

@@ -4,6 +4,7 @@ pub mod Spelling
 pub mod Events
 pub mod Items
 pub mod Answers
+pub mod Batches
 pub mod Scripts
 pub mod Messages
 pub mod Traces

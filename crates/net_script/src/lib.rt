@@ -4,6 +4,7 @@
 
 mod answers;
 mod byte_words;
+mod commands;
 mod events;
 mod items;
 mod known;
@@ -27,6 +28,7 @@ mod writing;
 mod written;
 
 pub use answers::{put_answer, write_datagram, write_notice};
+pub use commands::Commands;
 pub use events::read_command;
 pub use pieces::{put_floor, put_node, put_rows, put_tx};
 pub use said::Heard;

@@ -9,10 +9,11 @@ ghost use Rattle.net_script.specs.Lines.{lines, words, is_plain};
 ghost use Rattle.net_script.specs.Scripts.{is_note, lines_kept, items_so_far, IsLineOf, IsScript, AddsItem, ReadsLine};
 ghost use Rattle.net_script.specs.Scripts.{SpellsScript, Refuses, IsScriptFault};
 
+use crate::commands::Commands;
 use crate::items::{Item, item_by};
 use crate::stop::{Stop, at_line};
 use crate::trace_drafts::push;
-use crate::values::{Command, Script, Table};
+use crate::values::{Script, Table};
 use crate::words::{next_piece, next_word};
 use std::alloc::Global;
 use xid::{Refusal, Sequence};
@@ -56,7 +57,7 @@ fn is_free(tables: &[Table], rm: u8) -> bool
 fn with_table(alloc: Global, mut script: Script, table: Table) -> Result<Script, Stop>
     ensures { AddsItem (Some script) (Contents table) result }
 {
-    if !script.commands.as_slice().is_empty() {
+    if !script.commands.is_empty() {
         return Err(Stop::Wrong);
     }
     if u32::from(table.rm) >= script.sizes.rms {
@@ -80,14 +81,14 @@ fn with_item(alloc: Global, script: Option<Script>, item: Item) -> Result<Script
         return Ok(Script {
             sizes,
             tables: Sequence::new(Vec::new(alloc)),
-            commands: Sequence::new(Vec::new(alloc)),
+            commands: Commands::new(alloc),
         });
     };
     match item {
         Item::Cluster(_) => Err(Stop::Wrong),
         Item::Contents(table) => with_table(alloc, script, table),
         Item::Then(command) => {
-            push(alloc, &mut script.commands, command)?;
+            script.commands.push(alloc, command)?;
             Ok(script)
         }
     }

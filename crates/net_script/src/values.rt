@@ -1,3 +1,4 @@
+use crate::commands::Commands;
 use protocol::{Answer, Change, Event, NodeId, Row, Sent, Step};
 use xid::Sequence;
 
@@ -40,7 +41,7 @@ pub struct Script {
     /// At most one table for a resource manager of the cluster.
     pub tables: Sequence<Table>,
     /// What is asked for, in order.
-    pub commands: Sequence<Command>,
+    pub commands: Commands,
 }
 
 /// What a trace tells of, and what came of it.

@@ -9,7 +9,7 @@ ghost use Rattle.udp_run.specs.Runs.{IsFirstRefused, IsServed, IsUdpRun, Refuses
 use crate::opening::open;
 use cluster_run::config_of_with_hash_key;
 use hashing::HashKey;
-use net_script::{Command, Script, Trace, line_of, read_script, write_trace};
+use net_script::{Command, Script, Sizes, Table, Trace, line_of, read_script, write_trace};
 use node_core::Config;
 use protocol::Event;
 use xid::{Refusal, Sequence};
@@ -28,34 +28,38 @@ pub fn udp(rt: HostRuntime, script: &[u8], folder: &str) -> Result<Vec<u8>, Refu
     let alloc = rt.alloc();
     let text = script;
     let script = read_script(alloc, text)?;
-    let config = config_of_with_hash_key(
-        alloc,
-        HashKey::draw(&rt),
-        script.sizes,
-        script.tables.as_slice(),
-    )?;
-    if let Some(at) = first_refused(script.commands.as_slice()) {
-        let Some(line) = line_of(text, 1 + script.tables.as_slice().len() + at) else {
-            unreachable!();
-        };
-        return Err(Refusal::BadScript { line });
-    }
-    serve(rt, script, folder, &config)
-}
-
-/// Runs a script whose commands all happen over sockets.
-fn serve(rt: HostRuntime, script: Script, folder: &str, config: &Config) -> Result<Vec<u8>, Refusal>
-    requires { list_all is_served_of script.commands ≡ true }
-    ensures ok { IfOk result (λ output. IsServed config.now script output.items) }
-    ensures err { IfErr result (λ e. (e ≡ NoMemory) ⊎ RefusesDevices config.now script.commands e) }
-{
     let Script {
         sizes,
         tables,
         commands,
     } = script;
+    let config = config_of_with_hash_key(alloc, HashKey::draw(&rt), sizes, tables.as_slice())?;
+    let commands = commands.into_vec(alloc)?;
+    if let Some(at) = first_refused(&commands) {
+        let Some(line) = line_of(text, 1 + tables.as_slice().len() + at) else {
+            unreachable!();
+        };
+        return Err(Refusal::BadScript { line });
+    }
+    serve(rt, sizes, tables, commands, folder, &config)
+}
+
+/// Runs a script whose commands all happen over sockets.
+fn serve(
+    rt: HostRuntime,
+    sizes: Sizes,
+    tables: Sequence<Table>,
+    commands: Vec<Command>,
+    folder: &str,
+    config: &Config,
+) -> Result<Vec<u8>, Refusal>
+    requires { list_all is_served_of commands.items ≡ true }
+    ensures ok { IfOk result (λ output. IsServed config.now (record { sizes = sizes; tables = tables; commands = commands.items })
+        output.items) }
+    ensures err { IfErr result (λ e. (e ≡ NoMemory) ⊎ RefusesDevices config.now commands.items e) }
+{
     let mut site = open(rt, folder, config)?;
-    let entries = site.carry_out_all(commands.into_vec())?;
+    let entries = site.carry_out_all(commands)?;
     let finals = site.tables()?;
     let trace = Trace {
         sizes,

@@ -1,4 +1,5 @@
-use Rattle.std.proofs.Common.{◌≡◌, ◌∙◌, ◌++◌, ap, inl, List, ℕ, Option, rules}
+use Rattle.std.proofs.Common.{◌≡◌, ◌∙◌, ◌++◌, Err, ap, inl, List, ℕ, Option, refl, rules}
+use Rattle.std.proofs.lemmas.Result.{err_from_is_err_and}
 use Rattle.std.proofs.KnownBytes.{Keeps-refl}
 use Rattle.safety.specs.Vocabulary.{Row}
 use Rattle.net_script.specs.Traces.{final_lines}
@@ -21,7 +22,7 @@ returns-in_err-carry_out_all-clause-err g c =
     c.in_ok-config.ensures.ok.1 first c.in_ok-cluster.ensures.ok c.new-piece.result.items head c.new-piece.ensures.items
     c.in_ok-write_head.ensures.ok in
     handed_on _ c.from_residual-in_err-carry_out_all.result c.in_err-carry_out_all.field-0.0 (search rules)
-    (stops_in s c.in_ok-config.config first head begun c.into_vec.result.items c.into_vec.ensures (g.W.Write.contents c.args.out.now)
+    (stops_in s c.in_ok-config.config first head begun s.commands refl (g.W.Write.contents c.args.out.now)
     (g.W.Write.contents c.carry_out_all.new.out) c.in_err-carry_out_all.field-0.0 c.in_err-carry_out_all.ensures.err)
 
 pub returns-in-Err-clause-err : goal.returns-in-Err-clause-err
@@ -39,8 +40,8 @@ returns-in-Err-clause-err g c =
     begun_by s config c.as_slice-first.result.now c.in_ok-config.ensures.ok.0 c.as_slice-first.ensures
     c.in_ok-config.ensures.ok.1 first c.in_ok-cluster.ensures.ok c.new-piece.result.items head c.new-piece.ensures.items
     c.in_ok-write_head.ensures.ok in
-    let so = runs_on s config first head begun c.into_vec.result.items c.into_vec.ensures old last body new goes in
-    stops_after s config first head begun c.into_vec.result.items c.into_vec.ensures old last body new c.in-Err.refusal goes
+    let so = runs_on s config first head begun s.commands refl old last body new goes in
+    stops_after s config first head begun s.commands refl old last body new c.in-Err.refusal goes
     (c.in-Err.ensures config so.0 so.1 c.sizes.ensures.sizes.managers_are)
 
 pub returns-in_err-write_finals-clause-err : goal.returns-in_err-write_finals-clause-err
@@ -53,8 +54,9 @@ returns-in_err-write_finals-clause-err g c =
     begun_by s config c.as_slice-first.result.now c.in_ok-config.ensures.ok.0 c.as_slice-first.ensures
     c.in_ok-config.ensures.ok.1 first c.in_ok-cluster.ensures.ok c.new-piece.result.items head c.new-piece.ensures.items
     c.in_ok-write_head.ensures.ok in
-    handed_on _ c.from_residual-in_err-write_finals.result c.in_err-write_finals.field-0.0 (search rules)
-    (stops_after s config first head begun c.into_vec.result.items c.into_vec.ensures (g.W.Write.contents c.args.out.now)
+    let from = err_from_is_err_and c.from_residual-in_err-write_finals.result c.from_residual-in_err-write_finals.ensures.1 in
+    handed_on _ c.from_residual-in_err-write_finals.result c.in_err-write_finals.field-0.0 (from.1 ∙ ap Err from.2)
+    (stops_after s config first head begun s.commands refl (g.W.Write.contents c.args.out.now)
     c.carry_out_all.new.cluster c.carry_out_all.new.piece.items (g.W.Write.contents c.carry_out_all.new.out)
     c.in_err-write_finals.field-0.0 c.in_ok-carry_out_all.ensures.ok c.in_err-write_finals.ensures.err)
 
@@ -66,7 +68,7 @@ returns-clause-ok g c =
     let head = c.write_head.new.out.items in
     let last = c.carry_out_all.new.cluster in
     let body = c.carry_out_all.new.piece.items in
-    let commands = c.into_vec.result.items in
+    let commands = s.commands in
     let finals = c.in-Ok.finals.items in
     let text = c.deref-2.result.now in
     let old : Option (List ℕ) = g.W.Write.contents c.args.out.now in
@@ -79,8 +81,8 @@ returns-clause-ok g c =
     let text_is : text ≡ body ++ final_lines 0 finals =
     c.deref-2.ensures.value ∙ c.in_ok-write_finals.ensures.ok
     ∙ ap (λ (rows : List (List Row)). body ++ final_lines 0 rows) c.deref.ensures.value in
-    ends_ok s config first head begun commands c.into_vec.ensures old c.write_text.result new
-    (ends_by s config first head begun commands c.into_vec.ensures old last body text middle new c.in_ok-carry_out_all.ensures.ok
+    ends_ok s config first head begun commands refl old c.write_text.result new
+    (ends_by s config first head begun commands refl old last body text middle new c.in_ok-carry_out_all.ensures.ok
     c.sizes.result.managers c.sizes.ensures.sizes.managers_are finals c.in-Ok.ensures text_is c.write_text.result c.write_text.ensures)
 
 pub returns-clause-err : goal.returns-clause-err
@@ -91,7 +93,7 @@ returns-clause-err g c =
     let head = c.write_head.new.out.items in
     let last = c.carry_out_all.new.cluster in
     let body = c.carry_out_all.new.piece.items in
-    let commands = c.into_vec.result.items in
+    let commands = s.commands in
     let finals = c.in-Ok.finals.items in
     let text = c.deref-2.result.now in
     let old : Option (List ℕ) = g.W.Write.contents c.args.out.now in
@@ -104,6 +106,6 @@ returns-clause-err g c =
     let text_is : text ≡ body ++ final_lines 0 finals =
     c.deref-2.ensures.value ∙ c.in_ok-write_finals.ensures.ok
     ∙ ap (λ (rows : List (List Row)). body ++ final_lines 0 rows) c.deref.ensures.value in
-    ends_err s config first head begun commands c.into_vec.ensures old c.write_text.result new
-    (ends_by s config first head begun commands c.into_vec.ensures old last body text middle new c.in_ok-carry_out_all.ensures.ok
+    ends_err s config first head begun commands refl old c.write_text.result new
+    (ends_by s config first head begun commands refl old last body text middle new c.in_ok-carry_out_all.ensures.ok
     c.sizes.result.managers c.sizes.ensures.sizes.managers_are finals c.in-Ok.ensures text_is c.write_text.result c.write_text.ensures)

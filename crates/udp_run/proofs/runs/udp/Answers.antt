@@ -17,7 +17,8 @@ pub unreachable-requires : goal.unreachable-requires
 unreachable-requires c =
     let s = c.in_ok-script.script in
     let first : IsFirstRefused s.commands c.in-Some.at =
-    subst (λ (commands : List Command). IsFirstRefused commands c.in-Some.at) c.as_slice-2.ensures c.in-Some.ensures in
+    subst (λ (commands : List Command). IsFirstRefused commands c.in-Some.at) (c.deref.ensures.value ∙ c.in_ok-commands.ensures.ok)
+    c.in-Some.ensures in
     has_line c.args.script.now s c.in-Some.at c.in_ok-script.ensures.ok first.within
     (subst (λ (tables : List Table). length (lines_kept (lines c.args.script.now)) ≤ 1 + length tables + c.in-Some.at)
     c.as_slice-in-Some.ensures c.in_default-line_of.ensures)
@@ -26,7 +27,9 @@ pub returns-clause-err : goal.returns-clause-err
 returns-clause-err c =
     IfErr-weaker c.serve.result _ _
     (λ e late. refused_late c.args.script.now c.in_ok-script.script e c.in_ok-script.ensures.ok c.in_ok-config.ensures.ok.1
-    (ap (list_all is_served) (sym c.as_slice-2.ensures) ∙ c.in_default.ensures)
+    (ap (list_all is_served) (sym (c.deref.ensures.value ∙ c.in_ok-commands.ensures.ok)) ∙ c.in_default.ensures)
     (subst (λ (config : Config). (e ≡ NoMemory) ⊎ RefusesDevices config c.in_ok-script.script.commands e)
-    (c.in_ok-config.ensures.ok.0 ∙ ap (config_for c.in_ok-script.script.sizes) c.as_slice.ensures) late))
+    (c.in_ok-config.ensures.ok.0 ∙ ap (config_for c.in_ok-script.script.sizes) c.as_slice.ensures)
+    (subst (λ (commands : List Command). (e ≡ NoMemory) ⊎ RefusesDevices c.in_ok-config.config commands e) c.in_ok-commands.ensures.ok
+    late)))
     c.serve.ensures.err
