@@ -1,5 +1,5 @@
 -- The first message of what is left of a letter: where one begins, and that it is one alone. What takes letters apart rests on it.
-use Rattle.std.proofs.Common.{◌≡◌, ◌∙◌, ℕ, ◌+◌, List, ◌++◌, length, take, drop, sym, ap, arith, append_assoc}
+use Rattle.std.proofs.Common.{◌≡◌, ◌∙◌, ℕ, List, ◌++◌, length, take, drop, sym, ap, arith, append_assoc}
 use Rattle.std.proofs.lemmas.List.{drop_at}
 use Rattle.std.proofs.Math.Seq.{take-append_seam, drop-append_seam}
 use Rattle.byteorder.specs.Endian.{big_number, big_bytes}
