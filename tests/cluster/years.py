@@ -3,9 +3,10 @@
 PROGRAM [TRANSACTIONS [SEED]]. Clients of bench/clients.c do most of them, as fast as they can; others move money between accounts at both
 managers, and read the sum. What is checked:
   - each sum that was read, and the sum of the last tables, is the first sum
-  - what processes have in memory, and their records, doesn't rise after the first tenth: of acceptors, leaders and managers, the straight
-    line through the means of the tenths rises by at most a fifth of their mean, or a megabyte. A process that was killed has less for a
-    while, and what is kept for a time follows the rate, so single tenths of single processes say little
+  - what each process has in memory, and its record, is level after the first tenth: the mean of each tenth is within a fifth of
+    that of all, and a megabyte
+  - of acceptors, leaders and managers, the straight line through the means of these tenths rises by at most a fifth of their mean, or a
+    megabyte: a process that was killed has less for a while, and what is kept for a time follows the rate, so this tells a rise better
   - at the end each process listens within 0.2 s of its start
 Needs Debian's libpq-dev, which the clients are built with; without it nothing is run, and that is said."""
 import collections
@@ -156,6 +157,16 @@ class Levels:
     def most(self, *what):
         return max(max(tenth[what], default=0) for tenth in self.found)
 
+    def apart(self):
+        """What isn't level after the first tenth, within a fifth, above the little that every process has."""
+        wrong = []
+        for name in self.cluster.names:
+            for what in ('memory', 'record'):
+                means = self.means(name, what)
+                if max(abs(one - mean(means)) for one in means) > max(mean(means) / 5, 1 << 20):
+                    wrong.append('%s of %s: %s MB' % (what, name, ' '.join('%.1f' % (one / 1e6) for one in means)))
+        return wrong
+
     def rises(self):
         """What rises after the first tenth: of each kind of process, by how much, and the means of the tenths."""
         wrong = []
@@ -250,13 +261,14 @@ def main(program, count=100000, seed=1):
                                          levels.most(name, what) / 1e6) for what in ('memory', 'record')]
         print('years: %s: memory by tenths after the first %s; record %s; at the end %.1f and %.1f; it listens after %.3f s' % (
             name, *said, *(size / 1e6 for size in sizes[name]), took[name]))
-    for one in (*wrong[:5], *levels.rises()):
+    for one in (*wrong[:5], *levels.apart(), *levels.rises()):
         print('years: WRONG: %s' % (one,))
     shutil.rmtree(folder)
     finish('years', [('nothing is wrong', not wrong), ('the sum is right', last == 2 * ACCOUNTS * FIRST),
                      ('it came to its end', hasty.count >= count), ('most were committed', 10 * hasty.committed > 9 * hasty.count),
                      ('money was moved', moves > 100 and sums > 3), ('processes were killed', sum(killed.values()) > count // 200000),
-                     ("levels don't rise", not levels.rises()), ('starts are quick', max(took.values()) < SOON)])
+                     ('levels stay', not levels.apart()), ("levels don't rise", not levels.rises()),
+                     ('starts are quick', max(took.values()) < SOON)])
 
 
 if __name__ == '__main__':
