@@ -4,9 +4,9 @@ use Rattle.std.proofs.Common.{refl, sym, ap, append_assoc, arith}
 use Rattle.std.specs.Prelude.{false, is_some}
 use Rattle.std.specs.List.{flat_map}
 use Rattle.std.proofs.lemmas.Grind.{flat_map-append, take_at_read}
-use Rattle.std.proofs.lemmas.List.{append-nil, length-take, take_all}
+use Rattle.std.proofs.lemmas.List.{append-nil, length-take}
 use Rattle.xid.specs.Text.{hex_text}
-use Rattle.xid.specs.Transactions.{BranchParts, TxParts, IsTx, branch_text, branches_text, tx_text}
+use Rattle.xid.specs.Transactions.{BranchParts, TxParts, IsTx, branch_text, branches_text}
 use Rattle.xid.specs.Places.{Place, tx_place}
 use Rattle.wire.specs.Grammar.{branches_spelling, component_spelling, number_spelling, tx_spelling}
 use Rattle.wire.specs.Names.{name_at}
@@ -120,9 +120,3 @@ begun_more tx i d old text some within is =
     let more : branches_text (take (i + 1) tx.branches) ≡ branches_text (take i tx.branches) ++ 44 ∷ branch_text (get_or tx.branches i d) =
     ap branches_text (take_at_read tx.branches i d within).1 ∙ joined_push (take i tx.branches) (get_or tx.branches i d) long in
     rw (is, more) (simp append_assoc)
-
--- all of it
-pub begun_all : (tx : TxParts) (i : ℕ) → i ≡ length tx.branches → begun tx i ≡ tx_text tx
-begun_all tx i all =
-    ap (λ (bs : List BranchParts). decimal tx.format ++ 58 ∷ (hex_text tx.gtrid ++ 47 ∷ branches_text bs))
-    (take_all i tx.branches (omega (arith, all)))

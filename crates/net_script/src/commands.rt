@@ -51,7 +51,7 @@ impl Commands {
         self.last.is_empty()
     }
 
-    /// Puts one more at the end.
+    /// Puts one more at the end. Where memory is refused, the commands are of no use any more.
     pub(crate) fn push(&mut self, alloc: Global, command: Command) -> Result<(), AllocError>
         ensures { OnOk result (self.new ≡ self.old ++ command ∷ []) }
     {
@@ -66,7 +66,7 @@ impl Commands {
         Ok(())
     }
 
-    /// Its batches, in order. Refused: `NoMemory` alone.
+    /// Its batches, in order. Refused: `NoMemory` alone; then all commands are let go.
     pub fn into_batches(self) -> Result<Vec<Sequence<Command>>, Refusal>
         ensures ok { IfOk result (λ batches. flat_map (λ batch. batch) batches.items ≡ self) }
         ensures err { IfErr result (λ e. e ≡ NoMemory) }
@@ -77,7 +77,7 @@ impl Commands {
         Ok(batches)
     }
 
-    /// Its commands in one piece. Refused: `NoMemory` alone.
+    /// Its commands in one piece. Refused: `NoMemory` alone; then all are let go.
     pub fn into_vec(self, alloc: Global) -> Result<Vec<Command>, Refusal>
         ensures ok { IfOk result (λ commands. commands.items ≡ self) }
         ensures err { IfErr result (λ e. e ≡ NoMemory) }
