@@ -1,5 +1,5 @@
 //! Numbered transactions and messages, as the programs for `bench/measure.sh` take them.
-use wire::{Kind, MAX_DATAGRAM, Message, encode, is_message};
+use wire::{Kind, Message, is_message};
 use xid::{MAX_BRANCHES, ManagerNumber, Refusal, Tx};
 
 /// A transaction whose gtrid is a number of 4 bytes, with a branch at each of so many resource managers, at most `MAX_BRANCHES`.
@@ -26,11 +26,4 @@ pub fn sum_of_bytes(bytes: &[u8]) -> u64 {
         sum = sum.wrapping_add(u64::from(*byte));
     }
     sum
-}
-
-/// The sum of a message's bytes.
-pub fn sum_of(message: &Message) -> u64 {
-    let mut out = [0; MAX_DATAGRAM];
-    let len = encode(message, &mut out);
-    sum_of_bytes(&out[..len])
 }

@@ -8,12 +8,14 @@
 mod common;
 
 use anyhow::bail;
-use common::{message_of, sum_of, tx_of};
+use common::{message_of, sum_of_bytes, tx_of};
 use leader::{Leader, LeaderDecision, LeaderSends};
 use stable_record::FactView;
 use std::alloc::Global;
 use std::env;
-use wire::{InstanceAccept, InstanceReport, Items, Kind, MAX_DATAGRAM, MAX_TX_BYTES, encode, view_of};
+use wire::{
+    InstanceAccept, InstanceReport, Items, Kind, MAX_DATAGRAM, MAX_TX_BYTES, SpelledTx, encode, view_of,
+};
 use xid::{MAX_BRANCHES, ManagerNumber, Refusal, Tx, Vote};
 
 const USAGE: &str =
@@ -121,21 +123,26 @@ fn messages_of(alloc: Global, course: Course, transactions: u32) -> anyhow::Resu
 fn last_sum(sends: &LeaderSends) -> u64 {
     match sends.count() {
         0 => 0,
-        count => sum_of(&sends.at(count - 1).message),
+        count => {
+            let mut bytes = [0; MAX_DATAGRAM];
+            let len = sends.at(count - 1).message.encode(&mut bytes);
+            sum_of_bytes(&bytes[..len])
+        }
     }
 }
 
 /// A timeout, and its ballot.
-fn take_over(leader: &mut Leader, tx: &Tx) -> Result<LeaderSends, Refusal> {
-    let LeaderDecision { fact, sends, .. } = leader.timeout(tx);
-    if let Some(fact) = fact {
+fn take_over(leader: &mut Leader, tx: &Tx, decision: &mut LeaderDecision) -> Result<(), Refusal> {
+    let mut buffer = [0; MAX_TX_BYTES];
+    leader.timeout(&SpelledTx::of(tx, &mut buffer), decision);
+    if let Some(fact) = decision.fact.take() {
         let mut buffer = [0; MAX_TX_BYTES];
         let fact = FactView::of(fact, &mut buffer);
         leader.ready(&fact)?;
         leader.play(&fact)?;
         leader.begin(fact.tx(), 1);
     }
-    Ok(sends)
+    Ok(())
 }
 
 /// All events at one leader, what is decided on each in the place of what was decided before. Answers how many events there were, and
@@ -149,7 +156,7 @@ fn play_all(
     let mut events: u64 = 0;
     let mut sent: u64 = 0;
     for tx in timeouts {
-        decision.sends = take_over(leader, tx)?;
+        take_over(leader, tx, decision)?;
         sent = sent.wrapping_add(decision.sends.count() as u64);
         events = events.wrapping_add(1);
     }

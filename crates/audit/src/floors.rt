@@ -120,7 +120,7 @@ fn is_request_above(floor: &Floor, request: &Request, answer: &Answer) -> bool
         | Request::Commit { tx }
         | Request::Status { tx }
         | Request::Timeout { tx } => {
-            if !floor.is_above_tx(tx.get()) {
+            if !tx.get().is_below(floor) {
                 return true;
             }
             is_refused(answer)

@@ -1,13 +1,13 @@
 //! A leader.
 
-use crate::records;
+use crate::{codec, records};
 use case_lines::{Page, Part, Stop, run_calls, wanted, words};
 use leader::{Leader, LeaderDecision, LeaderSends};
 use protocol::Answer;
 use stable_record::{FactRest, FactView};
 use std::alloc::Global;
 use std::mem;
-use wire::{MAX_DATAGRAM, MAX_TX_BYTES, view_of};
+use wire::{MAX_DATAGRAM, MAX_TX_BYTES, SpelledTx, view_of};
 
 /// A leader that decides on messages where it decided before, as a node has it do.
 #[derive(Drop)]
@@ -36,16 +36,10 @@ pub fn run(alloc: Global, rest: &[u8], calls: &[String], page: &mut Page) -> Res
     run_calls(&mut part, alloc, calls, page)
 }
 
-/// What is answered and sent, with nothing to store.
-fn say(answer: Answer, sends: &LeaderSends, page: &mut Page) -> Result<(), Stop> {
-    page.finished_answer(answer)?;
-    say_sends(sends, page)
-}
-
 /// What is sent.
 fn say_sends(sends: &LeaderSends, page: &mut Page) -> Result<(), Stop> {
     for i in 0..sends.count() {
-        page.sent(&sends.at(i))?;
+        codec::say_reply(&Some(sends.at(i)), page)?;
     }
     Ok(())
 }
@@ -60,36 +54,18 @@ fn store(leader: &mut Leader, fact: &FactView<'_>) -> Result<(), Stop> {
     Ok(())
 }
 
-/// A take-over: its ballot is stored, and then its messages go.
-fn time_out(leader: &mut Leader, tx: &[u8], page: &mut Page) -> Result<LeaderSends, Stop> {
-    let LeaderDecision {
-        answer,
-        fact,
-        sends,
-    } = leader.timeout(&words::tx(tx)?);
-    let Some(fact) = fact else {
-        say(answer, &sends, page)?;
-        return Ok(sends);
-    };
-    let mut buffer = [0; MAX_TX_BYTES];
-    let fact = FactView::of(fact, &mut buffer);
-    store(leader, &fact)?;
-    page.finished_answer(answer)?;
-    page.fact(&fact)?;
-    say_sends(&sends, page)?;
-    Ok(sends)
-}
-
-/// What a leader decides on a request that stores nothing.
-fn asked(leader: &mut Leader, verb: &[u8], tx: &[u8]) -> Result<LeaderDecision, Stop> {
-    match verb {
-        b"commit" => wanted(leader.commit(&words::tx(tx)?)),
-        b"status" => Ok(leader.status(&words::tx(tx)?)),
-        _ => Err(Stop::Unread),
-    }
-}
-
 impl InPlace {
+    /// What was answered last.
+    fn answer(&mut self) -> Answer {
+        mem::replace(&mut self.led.answer, Answer::Done)
+    }
+
+    /// What was answered and sent last, with nothing to store.
+    fn say(&mut self, page: &mut Page) -> Result<(), Stop> {
+        page.finished_answer(self.answer())?;
+        say_sends(&self.led.sends, page)
+    }
+
     /// A message comes.
     fn hear(&mut self, alloc: Global, words: &[u8], page: &mut Page) -> Result<(), Stop> {
         let mut bytes = [0; MAX_DATAGRAM];
@@ -98,21 +74,35 @@ impl InPlace {
             return Err(Stop::Unread);
         };
         wanted(self.leader.on_message(&message, &mut self.led))?;
-        let answer = mem::replace(&mut self.led.answer, Answer::Done);
-        say(answer, &self.led.sends, page)
+        self.say(page)
     }
 
-    /// A request comes: its messages take the place of others.
+    /// A request comes that stores nothing: its messages take the place of others.
     fn ask(&mut self, verb: &[u8], tx: &[u8], page: &mut Page) -> Result<(), Stop> {
-        let LeaderDecision { answer, sends, .. } = asked(&mut self.leader, verb, tx)?;
-        self.led.sends = sends;
-        say(answer, &self.led.sends, page)
+        let mut buffer = [0; MAX_TX_BYTES];
+        let tx = &SpelledTx::of(&words::tx(tx)?, &mut buffer);
+        match verb {
+            b"commit" => wanted(self.leader.commit(tx, &mut self.led))?,
+            b"status" => self.leader.status(tx, &mut self.led),
+            _ => return Err(Stop::Unread),
+        }
+        self.say(page)
     }
 
-    /// A timeout comes: its messages take the place of others.
+    /// A timeout comes: the ballot of a take-over is stored, and then its messages go, in place of others.
     fn time_out(&mut self, tx: &[u8], page: &mut Page) -> Result<(), Stop> {
-        self.led.sends = time_out(&mut self.leader, tx, page)?;
-        Ok(())
+        let mut buffer = [0; MAX_TX_BYTES];
+        let tx = &SpelledTx::of(&words::tx(tx)?, &mut buffer);
+        self.leader.timeout(tx, &mut self.led);
+        let Some(fact) = self.led.fact.take() else {
+            return self.say(page);
+        };
+        let mut buffer = [0; MAX_TX_BYTES];
+        let fact = FactView::of(fact, &mut buffer);
+        store(&mut self.leader, &fact)?;
+        page.finished_answer(self.answer())?;
+        page.fact(&fact)?;
+        say_sends(&self.led.sends, page)
     }
 }
 

@@ -6,7 +6,7 @@ use case_lines::{Page, Part, Stop, run_calls, wanted, words};
 use protocol::{Answer, View};
 use resource_manager::ResourceManager;
 use std::alloc::Global;
-use wire::{MAX_DATAGRAM, MAX_TX_BYTES, view_of};
+use wire::{MAX_DATAGRAM, MAX_TX_BYTES, SpelledTx, view_of};
 use xid::Xid;
 
 /// Runs the calls of a case: `NUMBER MANAGERS`, and the first rows.
@@ -71,7 +71,8 @@ fn hear(
 
 /// What a timeout sends again.
 fn time_out(manager: &ResourceManager, tx: &[u8], page: &mut Page) -> Result<(), Stop> {
-    let reminder = manager.timeout(&words::tx(tx)?);
+    let mut buffer = [0; MAX_TX_BYTES];
+    let reminder = manager.timeout(&SpelledTx::of(&words::tx(tx)?, &mut buffer));
     page.answer(reminder.answer)?;
     page.end_line()?;
     for outgoing in reminder.vote.as_slice() {
@@ -95,7 +96,8 @@ pub fn view_word(view: View) -> &'static [u8] {
 
 /// Where the resource manager stands in a transaction.
 fn say_view(manager: &ResourceManager, tx: &[u8], page: &mut Page) -> Result<(), Stop> {
-    match manager.view(&words::tx(tx)?) {
+    let mut buffer = [0; MAX_TX_BYTES];
+    match manager.view(&SpelledTx::of(&words::tx(tx)?, &mut buffer)) {
         Ok(view) => page.word(view_word(view))?,
         Err(refusal) => page.refusal(refusal)?,
     }

@@ -153,10 +153,27 @@ fn compare(who: NodeId, received: bool, sends: &NodeSends, page: &mut Page) -> R
     Ok(())
 }
 
+/// Says where bytes don't spell a message for whom it is.
+fn compare_spelled(
+    outgoing: &Outgoing,
+    to: Address,
+    bytes: &[u8],
+    page: &mut Page,
+) -> Result<(), Stop> {
+    if codec::outgoing(to, bytes)? != *outgoing {
+        page.bytes(b"the two ways differ: a message, and what is spelled of it\n")?;
+    }
+    Ok(())
+}
+
 /// What is sent on an input.
 fn say_sends(who: NodeId, received: bool, sends: &NodeSends, page: &mut Page) -> Result<(), Stop> {
+    let mut bytes = [0; MAX_DATAGRAM];
     for i in 0..sends.count() {
-        page.sent(&sends.at(i))?;
+        let outgoing = sends.at(i);
+        page.sent(&outgoing)?;
+        let (to, len) = sends.spell(i, &mut bytes);
+        compare_spelled(&outgoing, to, &bytes[..len], page)?;
     }
     compare(who, received, sends, page)
 }

@@ -4,7 +4,7 @@ use Rattle.std.proofs.Common.{◌≡◌, ◌∙◌, ℕ, zero, suc, ◌+◌, ◌
 use Rattle.std.proofs.Common.{◌≢◌, Option, Some, None, drop, get_or, refl, sym, ap, subst, append_assoc, length-append, nat_lt, arith}
 use Rattle.std.specs.List.{AllZip, flat_map}
 use Rattle.std.specs.Option.{option_map_or}
-use Rattle.std.proofs.Math.Nat.{suc-mul, one-mul}
+use Rattle.std.proofs.Math.Nat.{suc-mul, one-mul, mul-le-mul_right}
 use Rattle.std.proofs.Math.Seq.{drop-append_seam}
 use Rattle.std.proofs.lemmas.Grind.{flat_map-append}
 use Rattle.std.proofs.lemmas.List.{append-nil, take_more, take_all, drop_more, length-drop, length-take-le, length-map}
@@ -135,25 +135,41 @@ pub record AreSent {X : Type 0} (f : X → List Datagram) (xs : List X) (start n
   pub sent : HaveSent start now (flat_map f (take k xs))
   pub room : HasRoom (length (flat_map f (drop k xs))) now
 
--- what is sent, with one message more
-pub next_sent : {X : Type 0} (f : X → List Datagram) (xs : List X) (start now new : NetworkParts) (k : ℕ) (message : X)
-    → k < length xs → message ≡ get_or xs k message → AreSent f xs start now k → HaveSent now new (f message)
-    → KeepsRoom (length (f message)) now new → AreSent f xs start new (k + 1)
-next_sent {X} f xs start now new k message lt read so more keeps = record {
-  sent = subst (λ (ds : List Datagram). HaveSent start new ds) flat_more (sent_then start now new _ _ so.sent more);
-  room = keeps (length (flat_map f (drop (k + 1) xs))) (subst (λ (n : ℕ). HasRoom n now) flat_left so.room);
-}
-  where
-    flat_more : flat_map f (take k xs) ++ f message ≡ flat_map f (take (k + 1) xs)
-    flat_more =
-        ap (λ (ds : List Datagram). flat_map f (take k xs) ++ ds) (sym (append-nil (f message)))
-        ∙ sym (flat_map-append f (take k xs) (message ∷ []))
-        ∙ ap (flat_map f) (ap (λ (y : X). take k xs ++ y ∷ []) read ∙ sym (take_more xs k message lt))
+module _ {X : Type 0} (f : X → List Datagram) (xs : List X) (start now : NetworkParts) (k : ℕ) (message : X)
+    (lt : k < length xs) (read : message ≡ get_or xs k message) (so : AreSent f xs start now k) where
+  -- how many are left, the next message's among them
+  flat_left : length (flat_map f (drop k xs)) ≡ length (f message) + length (flat_map f (drop (k + 1) xs))
+  flat_left =
+      ap (λ (ys : List X). length (flat_map f ys)) (drop_more xs k message lt ∙ ap (λ (y : X). y ∷ drop (k + 1) xs) (sym read))
+      ∙ length-append (f message) (flat_map f (drop (k + 1) xs))
 
-    flat_left : length (flat_map f (drop k xs)) ≡ length (f message) + length (flat_map f (drop (k + 1) xs))
-    flat_left =
-        ap (λ (ys : List X). length (flat_map f ys)) (drop_more xs k message lt ∙ ap (λ (y : X). y ∷ drop (k + 1) xs) (sym read))
-        ∙ length-append (f message) (flat_map f (drop (k + 1) xs))
+  -- there is room for the next message
+  pub next_room : HasRoom (length (f message)) now
+  next_room =
+      let le : length (f message) ≤ length (flat_map f (drop k xs)) = omega (arith, flat_left) in
+      let bytes : length (f message) * MAX_MESSAGE_BYTES ≤ length (flat_map f (drop k xs)) * MAX_MESSAGE_BYTES =
+      mul-le-mul_right MAX_MESSAGE_BYTES le in
+      record {
+        datagrams = omega (arith, so.room.datagrams, le);
+        bytes = through _ _ now.spare_bytes bytes so.room.bytes;
+      }
+    where
+      through : (a b c : ℕ) → a ≤ b → b ≤ c → a ≤ c
+      through a b c le more = omega (arith, le, more)
+
+  -- what is sent, with one message more
+  pub next_sent : (new : NetworkParts) → HaveSent now new (f message) → KeepsRoom (length (f message)) now new
+      → AreSent f xs start new (k + 1)
+  next_sent new more keeps = record {
+    sent = subst (λ (ds : List Datagram). HaveSent start new ds) flat_more (sent_then start now new _ _ so.sent more);
+    room = keeps (length (flat_map f (drop (k + 1) xs))) (subst (λ (n : ℕ). HasRoom n now) flat_left so.room);
+  }
+    where
+      flat_more : flat_map f (take k xs) ++ f message ≡ flat_map f (take (k + 1) xs)
+      flat_more =
+          ap (λ (ds : List Datagram). flat_map f (take k xs) ++ ds) (sym (append-nil (f message)))
+          ∙ sym (flat_map-append f (take k xs) (message ∷ []))
+          ∙ ap (flat_map f) (ap (λ (y : X). take k xs ++ y ∷ []) read ∙ sym (take_more xs k message lt))
 
 -- ---- what an event sent, read off the network
 

@@ -12,8 +12,8 @@ ghost use Rattle.cluster.specs.Sending.{HasRoom, HaveSent, KeepsRoom};
 
 use network::Network;
 use node_core::{NodeSends, Receivers, Sizes};
-use protocol::{Address, NodeId, Outgoing};
-use wire::{MAX_DATAGRAM, MAX_MESSAGE_BYTES, encode};
+use protocol::{Address, NodeId};
+use wire::{MAX_DATAGRAM, MAX_MESSAGE_BYTES};
 
 /// Puts a message into the network for one receiver more, by the bytes that spell it. They are kept with the first.
 fn put(network: &mut Network, sender: NodeId, receiver: NodeId, bytes: &[u8], again: bool)
@@ -51,26 +51,16 @@ fn send(network: &mut Network, sizes: Sizes, sender: NodeId, to: Address, bytes:
     }
 }
 
-/// Sends a message that isn't spelled yet to each of its receivers, as `send` does.
-fn spell_and_send(network: &mut Network, sizes: Sizes, sender: NodeId, outgoing: &Outgoing)
-    requires { HasRoom (length (datagrams_of (config_by sizes []) sender outgoing.now)) network.old }
-    ensures sent { HaveSent network.old network.new (datagrams_of (config_by sizes []) sender outgoing.now) }
-    ensures room { KeepsRoom (length (datagrams_of (config_by sizes []) sender outgoing.now)) network.old network.new }
-{
-    let mut buffer = [0; MAX_DATAGRAM];
-    let _ = outgoing.message.kind();
-    let len = encode(&outgoing.message, &mut buffer);
-    send(network, sizes, sender, outgoing.to, &buffer[..len]);
-}
-
 /// Sends the messages of a node that aren't spelled yet, in their order, as `send_all` does.
 #[inline(never)]
 fn spell_and_send_all(network: &mut Network, sizes: Sizes, sender: NodeId, sends: &NodeSends)
     requires { HasRoom (length (flat_map (datagrams_of (config_by sizes []) sender) sends.now)) network.old }
     ensures { HaveSent network.old network.new (flat_map (datagrams_of (config_by sizes []) sender) sends.now) }
 {
+    let mut buffer = [0; MAX_DATAGRAM];
     for k in 0..sends.count() {
-        spell_and_send(network, sizes, sender, &sends.at(k));
+        let (to, len) = sends.spell(k, &mut buffer);
+        send(network, sizes, sender, to, &buffer[..len]);
     }
 }
 

@@ -21,10 +21,10 @@ fn is_request_below(floor: &Floor, request: &Request) -> bool
     match request {
         Request::Call { xid, .. } => floor.is_above_xid(xid),
         Request::Recover => false,
-        Request::View { tx } => floor.is_above_tx(tx.get()),
-        Request::Commit { tx } => floor.is_above_tx(tx.get()),
-        Request::Status { tx } => floor.is_above_tx(tx.get()),
-        Request::Timeout { tx } => floor.is_above_tx(tx.get()),
+        Request::View { tx } => tx.get().is_below(floor),
+        Request::Commit { tx } => tx.get().is_below(floor),
+        Request::Status { tx } => tx.get().is_below(floor),
+        Request::Timeout { tx } => tx.get().is_below(floor),
     }
 }
 

@@ -2,7 +2,7 @@
 -- Needed by 8 functions of this crate; Above, Compacting and Storing; crate node_core.
 use Rattle.std.proofs.Common.{◌≡◌, ◌∙◌, ℕ, ◌<◌, ◌^◌, max, Bool, true, false, not, ◌&&◌, ◌||◌, ◌==◌, List, [], ◌∷◌, ◌++◌, Option, Some, None}
 use Rattle.std.proofs.Common.{sym, ap, refl, subst, arith}
-use Rattle.std.specs.Prelude.{if◌then◌else◌, nat_lt, filter_map, map, IsTrue, Result, Ok, Err, IfSome, IfNone}
+use Rattle.std.specs.Prelude.{if◌then◌else◌, nat_lt, filter_map, map, IsTrue, Result, Err, IfSome, IfNone}
 use Rattle.std.specs.List.{list_any, AllByRecursion, cons_option}
 use Rattle.std.proofs.lemmas.Bool.{false≢true, lt-ltb}
 use Rattle.xid.specs.Limits.{most_acceptors}
@@ -77,13 +77,6 @@ kept_same config number inner old courses is kept = record {
       kept_stands config number inner courses stored memory kept (moved config number inner old stored memory is stands);
   begun_is = kept.begun_is ∙ ap (λ (l : LeaderParts). l.courses.begun) is;
 }
-
--- a decision that follows the rule, where it was not refused
-pub ok_follows : (config : Config) (number : ℕ) (old new : LeaderParts) (r : Result LeaderDecision Refusal) (decision : LeaderDecision)
-    (rule : Rule)
-    → r ≡ Ok decision → Follows config number old new decision rule → FollowsOrRefuses config number old new r rule
-ok_follows config number old new r decision rule is h =
-    let P : Result LeaderDecision Refusal → Type 0 = λ x. FollowsOrRefuses config number old new x rule in subst P (sym is) h
 
 -- a refusal for want of memory that left all the same
 pub err_same : (config : Config) (number : ℕ) (old new : LeaderParts) (r : Result LeaderDecision Refusal) (e : Refusal) (rule : Rule)

@@ -1,18 +1,20 @@
 ghost use Rattle.std.specs.Prelude.{◌≡◌, [], Some, None};
 ghost use Rattle.stable_record.specs.declared.fact.FactKind.TheVariants.{Ballot as BallotFact};
 ghost use Rattle.wire.specs.Messages.{IsBallot, IsLeaderBallot};
-ghost use Rattle.protocol.specs.declared.answers.Answer.TheVariants.{Done, Refused};
+ghost use Rattle.protocol.specs.declared.answers.Answer.TheVariants.{Done, Refused, Stands};
+ghost use Rattle.protocol.specs.Effects.{status_standing};
 ghost use Rattle.protocol.specs.Leaders.{outcome_messages};
 ghost use Rattle.leader.specs.Decisions.{shown};
+ghost use Rattle.leader.specs.Leaders.{commit_messages};
 ghost use Rattle.leader.specs.Orders.{AreOf, phase_1a_by, proposal_messages};
 
 use crate::course::is_final;
 use crate::orders::LeaderSends;
 use crate::proposals::Proposals;
-use protocol::{Address, Answer, Status};
+use protocol::{Address, Answer, Standing, Status};
 use stable_record::{Fact, FactKind};
 use wire::SpelledTx;
-use xid::{Ballot, Refusal, Tx};
+use xid::{Ballot, Refusal};
 
 /// What a leader decides on an input.
 #[derive(Debug, Drop)]
@@ -26,22 +28,15 @@ pub struct LeaderDecision {
 }
 
 impl LeaderDecision {
-    /// An answer, nothing to store, and nothing to send.
-    pub fn answers(answer: Answer) -> LeaderDecision
-        ensures { shown result ≡ record { answer = answer; fact = None; sends = [] } }
-    {
-        LeaderDecision {
-            answer,
-            fact: None,
-            sends: LeaderSends::nothing(),
-        }
-    }
-
     /// Ok, nothing to store, and nothing to send.
     pub fn nothing() -> LeaderDecision
         ensures { shown result ≡ record { answer = Done; fact = None; sends = [] } }
     {
-        LeaderDecision::answers(Answer::Done)
+        LeaderDecision {
+            answer: Answer::Done,
+            fact: None,
+            sends: LeaderSends::nothing(),
+        }
     }
 
     /// Ok, and nothing to store, in place of what was decided before; what is sent stays.
@@ -62,23 +57,53 @@ impl LeaderDecision {
         self.sends.clear();
     }
 
-    /// A refusal, nothing to store, and nothing to send, in place of what was decided before.
-    pub(crate) fn refuse(&mut self, refusal: Refusal)
-        ensures { shown self.new ≡ record { answer = Refused refusal; fact = None; sends = [] } }
+    /// An answer, nothing to store, and nothing to send, in place of what was decided before.
+    fn answer(&mut self, answer: Answer)
+        ensures { shown self.new ≡ record { answer = answer; fact = None; sends = [] } }
     {
         self.clear();
-        self.answer = Answer::Refused(refusal);
+        self.answer = answer;
+    }
+
+    /// A refusal, nothing to store, and nothing to send, in place of what was decided before.
+    pub fn refuse(&mut self, refusal: Refusal)
+        ensures { shown self.new ≡ record { answer = Refused refusal; fact = None; sends = [] } }
+    {
+        self.answer(Answer::Refused(refusal));
+    }
+
+    /// How a status is answered, nothing to store, and nothing to send, in place of what was decided before.
+    pub(crate) fn stand(&mut self, status: Status)
+        ensures { shown self.new ≡ record { answer = Stands (status_standing status); fact = None; sends = [] } }
+    {
+        self.answer(Answer::Stands(standing_of(status)));
+    }
+
+    /// How a status is answered, nothing to store, and what a commit call sends then, in place of what was decided before.
+    pub(crate) fn commit(&mut self, tx: &SpelledTx<'_>, status: Status)
+        ensures { shown self.new
+            ≡ record { answer = Stands (status_standing status); fact = None; sends = commit_messages status tx.now } }
+    {
+        self.store_nothing();
+        self.answer = Answer::Stands(standing_of(status));
+        if is_final(status) {
+            self.sends.tell(tx, status, Address::Managers);
+        } else {
+            self.sends.prepare(tx);
+        }
     }
 
     /// Ok, a ballot to store, and its phase 1a to send, in place of what was decided before.
-    pub(crate) fn begin(&mut self, tx: &Tx, ballot: Ballot, bundled: bool)
+    pub(crate) fn begin(&mut self, tx: &SpelledTx<'_>, ballot: Ballot, bundled: bool)
         requires { IsLeaderBallot ballot }
         ensures { shown self.new
             ≡ record { answer = Done; fact = Some (BallotFact tx.now ballot); sends = phase_1a_by bundled tx.now ballot } }
     {
-        let _ = tx.count();
         self.answer = Answer::Done;
-        self.fact = Some(Fact::new(FactKind::Ballot { tx: *tx, ballot }));
+        self.fact = Some(Fact::new(FactKind::Ballot {
+            tx: tx.to_tx(),
+            ballot,
+        }));
         self.sends.begin(tx, ballot, bundled);
     }
 
@@ -91,7 +116,7 @@ impl LeaderDecision {
             self.sends.clear();
             return;
         }
-        self.sends.tell(&tx.to_tx(), outcome, to);
+        self.sends.tell(tx, outcome, to);
     }
 
     /// Ok, nothing to store, and phase 2a of each proposal to send, in place of what was decided before.
@@ -105,7 +130,7 @@ impl LeaderDecision {
             self.sends.clear();
             return;
         }
-        self.sends.propose(&tx.to_tx(), ballot, proposals);
+        self.sends.propose(tx, ballot, proposals);
     }
 }
 
@@ -114,4 +139,16 @@ fn forget(fact: &mut Option<Fact>)
     ensures { fact.new ≡ None }
 {
     *fact = None;
+}
+
+/// How a status is answered.
+fn standing_of(status: Status) -> Standing
+    ensures { result ≡ status_standing status }
+{
+    match status {
+        Status::Unknown => Standing::Unknown,
+        Status::Undecided => Standing::Undecided,
+        Status::Committed => Standing::Committed,
+        Status::Aborted => Standing::Aborted,
+    }
 }

@@ -6,7 +6,7 @@ ghost use Rattle.xid.specs.Transactions.{participants};
 ghost use Rattle.xid.specs.declared.refusals.Refusal.TheVariants.{NoMemory};
 ghost use Rattle.wire.specs.Messages.{IsMessage};
 ghost use Rattle.wire.specs.declared.message.Kind.TheVariants.{B1b};
-ghost use Rattle.protocol.specs.Effects.{Config, decision_of, status_standing};
+ghost use Rattle.protocol.specs.Effects.{Config, decision_of};
 ghost use Rattle.protocol.specs.Kept.{kept_facts, kept_leader};
 ghost use Rattle.stable_record.specs.declared.fact.FactKind.{FactKind as FactOf};
 ghost use Rattle.protocol.specs.LeaderMemory.{LeaderMemory, StoredBallots, nothing_heard, with_begun, with_met};
@@ -14,7 +14,7 @@ ghost use Rattle.protocol.specs.Leaders as rules;
 ghost use Rattle.stable_record.specs.Facts.{fact_tx};
 ghost use Rattle.stable_record.specs.Parts.{IsMadeReady, IsPlayed};
 ghost use Rattle.stable_record.specs.declared.fact.FactKind.TheVariants as facts;
-ghost use Rattle.leader.specs.Leaders.{are_below, commit_messages, decided, taken_over, StandsFor, StandsForBallots, Follows};
+ghost use Rattle.leader.specs.Leaders.{are_below, decided, taken_over, StandsFor, StandsForBallots, Follows};
 ghost use Rattle.leader.specs.Leaders.{FollowsOrRefuses, leader_part};
 ghost use Rattle.leader.specs.Compaction.{AreShorterFrames};
 ghost use Rattle.leader.specs.Decisions.{shown};
@@ -23,18 +23,14 @@ ghost use Rattle.protocol.specs.declared.decisions.Address.TheVariants.{Managers
 use crate::course::is_final;
 use crate::courses::Courses;
 use crate::decision::LeaderDecision;
-use crate::orders::LeaderSends;
 use ballot::{next_owned, owner};
 use hashing::HashKey;
-use protocol::{Address, Answer, NodeId, Standing, Status};
+use protocol::{Address, NodeId};
 use stable_record::{FactRest, FactView};
 use std::alloc::Global;
 use std::marker::Model;
-use wire::{
-    InstanceAccept, InstanceReport, MAX_TX_BYTES, MessageView, Rest, SpelledTx, accepts_of,
-    reports_of,
-};
-use xid::{Ballot, Floor, ManagerNumber, Refusal, Tx};
+use wire::{InstanceAccept, InstanceReport, MessageView, Rest, SpelledTx, accepts_of, reports_of};
+use xid::{Ballot, Floor, ManagerNumber, Refusal};
 
 /// A leader: its number, the sizes of its cluster, and the transactions that it has to do with. Contracts say which stored ballots, and
 /// which memory since the last restart, it stands for.
@@ -163,50 +159,33 @@ impl Leader {
 
     /// A client asks for a commit, which makes the leader know the transaction: undecided, each resource manager is asked to prepare;
     /// decided, it is told the outcome again. The answer is the status, or that the transaction names a resource manager outside the
-    /// cluster (`BadTx`); then nothing changes. At `NoMemory`, the only refusal, it stands for what it stood for.
-    pub fn commit(&mut self, tx: &Tx) -> Result<LeaderDecision, Refusal>
-        ensures { (config : Config) (number : ℕ) → FollowsOrRefuses config number self.old self.new result
+    /// cluster (`BadTx`); then nothing changes. At `NoMemory`, the only refusal, it stands for what it stood for. It decides in place of
+    /// what was decided before, which is no decision after a refusal.
+    pub fn commit(
+        &mut self,
+        tx: &SpelledTx<'_>,
+        decision: &mut LeaderDecision,
+    ) -> Result<(), Refusal>
+        ensures { (config : Config) (number : ℕ) → FollowsOrRefuses config number self.old self.new (decided decision.new result)
             (λ stored memory. rules.on_commit_call config stored memory tx.now) }
     {
-        let mut buffer = [0; MAX_TX_BYTES];
-        let spelled = SpelledTx::of(tx, &mut buffer);
-        if !is_inside(self.managers, &spelled) {
-            return Ok(LeaderDecision::answers(Answer::Refused(Refusal::BadTx)));
+        if !is_inside(self.managers, tx) {
+            decision.refuse(Refusal::BadTx);
+            return Ok(());
         }
-        match self.courses.meet(&spelled) {
-            Ok(status) => Ok(LeaderDecision {
-                answer: Answer::Stands(standing_of(status)),
-                fact: None,
-                sends: commit_sends(status, tx),
-            }),
-            Err(refusal) => Err(refusal),
-        }
+        let status = match self.courses.meet(tx) {
+            Ok(status) => status,
+            Err(refusal) => return Err(refusal),
+        };
+        decision.commit(tx, status);
+        Ok(())
     }
 
     /// A timeout: undecided, the leader takes over in its next ballot, which is to be stored, and phase 1a goes out; after `play` of the
     /// ballot, `begin` makes it current. Decided, each resource manager is told the outcome again. The answer is ok, or `NoBallot`
-    /// where no ballot of its own is left, or `BadTx` where the transaction names a resource manager outside the cluster. It takes no
-    /// memory.
-    pub fn timeout(&mut self, tx: &Tx) -> LeaderDecision
-        ensures decides { (config : Config) (number : ℕ) (stored : StoredBallots) (memory : LeaderMemory)
-            → StandsForBallots config number self.old stored memory
-            → shown result ≡ decision_of (rules.on_leader_timeout config number stored memory tx.now) }
-        ensures plays { (config : Config) (number : ℕ) (stored : StoredBallots) (memory : LeaderMemory)
-            → StandsForBallots config number self.old stored memory
-            → IfSome result.fact (λ fact. rules.plays_at_leader config.leaders number stored fact ≡ true) }
-        ensures waits { IfSome result.fact (λ fact. self.new ≡ self.old) }
-        ensures begun { self.new.courses.begun ≡ self.old.courses.begun }
-        ensures stands { IfNone result.fact ((config : Config) (number : ℕ) (stored : StoredBallots) (memory : LeaderMemory)
-            → StandsForBallots config number self.old stored memory
-            → StandsForBallots config number self.new stored (rules.on_leader_timeout config number stored memory tx.now).memory) }
-    {
-        let mut decision = LeaderDecision::nothing();
-        self.decide_timeout(tx, &mut decision);
-        decision
-    }
-
-    /// Decides as `timeout` does, in place of what was decided before.
-    fn decide_timeout(&mut self, tx: &Tx, decision: &mut LeaderDecision)
+    /// where no ballot of its own is left, or `BadTx` where the transaction names a resource manager outside the cluster. It decides in
+    /// place of what was decided before, and takes no memory.
+    pub fn timeout(&mut self, tx: &SpelledTx<'_>, decision: &mut LeaderDecision)
         ensures decides { (config : Config) (number : ℕ) (stored : StoredBallots) (memory : LeaderMemory)
             → StandsForBallots config number self.old stored memory
             → shown decision.new ≡ decision_of (rules.on_leader_timeout config number stored memory tx.now) }
@@ -219,20 +198,18 @@ impl Leader {
             → StandsForBallots config number self.old stored memory
             → StandsForBallots config number self.new stored (rules.on_leader_timeout config number stored memory tx.now).memory) }
     {
-        let mut buffer = [0; MAX_TX_BYTES];
-        let spelled = SpelledTx::of(tx, &mut buffer);
-        if !is_inside(self.managers, &spelled) {
+        if !is_inside(self.managers, tx) {
             decision.refuse(Refusal::BadTx);
             return;
         }
-        let place = self.courses.place_of(&spelled);
-        let status = self.courses.status_at(&spelled, place);
+        let place = self.courses.place_of(tx);
+        let status = self.courses.status_at(tx, place);
         if is_final(status) {
-            self.courses.mark_known(&spelled, place);
-            decision.tell(&spelled, status, Address::Managers);
+            self.courses.mark_known(tx, place);
+            decision.tell(tx, status, Address::Managers);
             return;
         }
-        let last = self.courses.greatest_at(&spelled, place);
+        let last = self.courses.greatest_at(tx, place);
         take_over(self.number, self.leaders, self.bundled, tx, last, decision);
     }
 
@@ -314,20 +291,19 @@ impl Leader {
         Ok(())
     }
 
-    /// What a client is told of a transaction: its status, or `BadTx` where it names a resource manager outside the cluster. It takes no
-    /// memory.
-    pub fn status(&self, tx: &Tx) -> LeaderDecision
-        ensures { (config : Config) (number : ℕ) → Follows config number self.now self.now result
+    /// What a client is told of a transaction: its status, or `BadTx` where it names a resource manager outside the cluster. It decides in
+    /// place of what was decided before, and takes no memory.
+    pub fn status(&self, tx: &SpelledTx<'_>, decision: &mut LeaderDecision)
+        ensures { (config : Config) (number : ℕ) → Follows config number self.now self.now decision.new
             (λ stored memory. rules.on_status_call config stored memory tx.now) }
     {
-        let mut buffer = [0; MAX_TX_BYTES];
-        let spelled = SpelledTx::of(tx, &mut buffer);
-        if !is_inside(self.managers, &spelled) {
-            return LeaderDecision::answers(Answer::Refused(Refusal::BadTx));
+        if !is_inside(self.managers, tx) {
+            decision.refuse(Refusal::BadTx);
+            return;
         }
-        let place = self.courses.place_of(&spelled);
-        let status = self.courses.status_at(&spelled, place);
-        LeaderDecision::answers(Answer::Stands(standing_of(status)))
+        let place = self.courses.place_of(tx);
+        let status = self.courses.status_at(tx, place);
+        decision.stand(status);
     }
 
     /// What it does on a message: on phase 1b and 2b, single or in bundles, and on a question, what `on_1b`, `on_2b` and `on_ask` say, on
@@ -451,7 +427,7 @@ fn take_over(
     number: u8,
     leaders: u8,
     bundled: bool,
-    tx: &Tx,
+    tx: &SpelledTx<'_>,
     last: Ballot,
     decision: &mut LeaderDecision,
 )
@@ -463,29 +439,4 @@ fn take_over(
         Ok(ballot) => decision.begin(tx, ballot, bundled),
         Err(_) => decision.refuse(Refusal::NoBallot),
     }
-}
-
-/// How a status is answered.
-fn standing_of(status: Status) -> Standing
-    ensures { result ≡ status_standing status }
-{
-    match status {
-        Status::Unknown => Standing::Unknown,
-        Status::Undecided => Standing::Undecided,
-        Status::Committed => Standing::Committed,
-        Status::Aborted => Standing::Aborted,
-    }
-}
-
-/// What a commit call sends.
-fn commit_sends(status: Status, tx: &Tx) -> LeaderSends
-    ensures { result ≡ commit_messages status tx.now }
-{
-    let mut sends = LeaderSends::nothing();
-    if is_final(status) {
-        sends.tell(tx, status, Address::Managers);
-    } else {
-        sends.prepare(tx);
-    }
-    sends
 }

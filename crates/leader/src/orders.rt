@@ -1,16 +1,16 @@
 ghost use Rattle.std.specs.Prelude.{◌≡◌, ◌<◌, [], length, slice_index_or};
-ghost use Rattle.xid.specs.Transactions.{IsTx};
 ghost use Rattle.wire.specs.Messages.{IsMessage, IsBallot, IsLeaderBallot};
+ghost use Rattle.wire.specs.Said.{replied};
 ghost use Rattle.protocol.specs.Effects.{to as to_of};
 ghost use Rattle.protocol.specs.Leaders.{outcome_messages};
 ghost use Rattle.leader.specs.Orders.{prepare_messages, phase_1a_by, proposal_messages, AreOf, word_messages, IsSound};
 
 use crate::course::is_final;
 use crate::proposals::Proposals;
-use protocol::{Address, Outgoing, Status};
+use protocol::{Address, SentReply, Status};
 use std::marker::Model;
-use wire::{Kind, Message};
-use xid::{Ballot, Tx};
+use wire::{PlacedTx, Reply, ReplyRest, SpelledTx};
+use xid::Ballot;
 
 /// What is to be sent of a transaction, in few words.
 #[derive(Debug, Drop)]
@@ -36,12 +36,12 @@ pub enum Words {
     },
 }
 
-/// The messages that a leader sends, in order, at most `MAX_BRANCHES`. Contracts see the list; the transaction is kept once, and each
-/// message is made when it is asked for. To make them takes no memory.
+/// The messages that a leader sends, in order, at most `MAX_BRANCHES`. Contracts see the list; the bytes of the transaction are kept once,
+/// and each message is made over them when it is asked for. To make them takes no memory.
 #[derive(Debug, Drop)]
 pub struct LeaderSends {
     /// The transaction of the words; there is one where these send something.
-    tx: Option<Tx>,
+    tx: PlacedTx,
     words: Words,
 }
 
@@ -63,63 +63,56 @@ impl LeaderSends {
         ensures { result ≡ [] }
     {
         LeaderSends {
-            tx: None,
+            tx: PlacedTx::none(),
             words: Words::Nothing,
         }
     }
 
     /// Nothing, in place of what was to be sent before.
-    pub(crate) fn clear(&mut self)
+    pub fn clear(&mut self)
         ensures { self.new ≡ [] }
     {
         self.words = Words::Nothing;
     }
 
     /// These words of a transaction, in place of what was to be sent before.
-    fn put(&mut self, tx: &Tx, words: Words)
-        requires valid { IsTx tx.now }
-        requires sound { IsSound tx.now words }
+    fn put(&mut self, tx: &SpelledTx<'_>, words: Words)
+        requires { IsSound tx.now words }
         ensures { self.new ≡ word_messages tx.now words }
     {
+        let _ = tx.count();
         self.words = words;
-        match &mut self.tx {
-            Some(kept) => *kept = *tx,
-            None => self.tx = Some(*tx),
-        }
+        self.tx.put(tx);
     }
 
     /// Prepare, to each resource manager of a transaction, in place of what was to be sent before.
-    pub(crate) fn prepare(&mut self, tx: &Tx)
+    pub(crate) fn prepare(&mut self, tx: &SpelledTx<'_>)
         ensures { self.new ≡ prepare_messages tx.now }
     {
-        let _ = tx.count();
         self.put(tx, Words::Prepares);
     }
 
     /// The outcome of a transaction, where there is one, in place of what was to be sent before.
-    pub(crate) fn tell(&mut self, tx: &Tx, outcome: Status, to: Address)
+    pub(crate) fn tell(&mut self, tx: &SpelledTx<'_>, outcome: Status, to: Address)
         ensures { self.new ≡ outcome_messages outcome tx.now to }
     {
-        let _ = tx.count();
         self.put(tx, Words::Tells { outcome, to });
     }
 
     /// Phase 1a of a ballot, in place of what was to be sent before: of each instance, or in a bundled cluster once for all.
-    pub(crate) fn begin(&mut self, tx: &Tx, ballot: Ballot, bundled: bool)
+    pub(crate) fn begin(&mut self, tx: &SpelledTx<'_>, ballot: Ballot, bundled: bool)
         requires { IsLeaderBallot ballot }
         ensures { self.new ≡ phase_1a_by bundled tx.now ballot }
     {
-        let _ = tx.count();
         self.put(tx, Words::Begins { ballot, bundled });
     }
 
     /// Phase 2a of each proposal, in place of what was to be sent before.
-    pub(crate) fn propose(&mut self, tx: &Tx, ballot: Ballot, proposals: Proposals)
+    pub(crate) fn propose(&mut self, tx: &SpelledTx<'_>, ballot: Ballot, proposals: Proposals)
         requires ballot { IsBallot ballot }
         requires named { AreOf tx.now proposals }
         ensures { self.new ≡ proposal_messages tx.now ballot proposals }
     {
-        let _ = tx.count();
         self.put(tx, Words::Proposes { ballot, proposals });
     }
 
@@ -127,7 +120,7 @@ impl LeaderSends {
     pub fn count(&self) -> usize
         ensures { result ≡ length self.now }
     {
-        let Some(tx) = &self.tx else {
+        let Some(tx) = &self.tx.get() else {
             return 0;
         };
         match &self.words {
@@ -139,62 +132,57 @@ impl LeaderSends {
         }
     }
 
-    /// The message of a place.
-    pub fn at(&self, i: usize) -> Outgoing
+    /// The message of a place, over the bytes of its transaction, and whom it is for.
+    pub fn at(&self, i: usize) -> SentReply<'_>
         requires { i < length self.now }
-        ensures { result ≡ slice_index_or self.now i result }
+        ensures { to_of result.to result.message ≡ slice_index_or self.now i (to_of result.to result.message) }
     {
-        let Some(tx) = &self.tx else {
+        let Some(tx) = &self.tx.get() else {
             unreachable!();
         };
         match &self.words {
             Words::Nothing => unreachable!(),
-            Words::Prepares => outgoing(Address::Managers, Kind::Prepare(*tx)),
+            Words::Prepares => sent(Address::Managers, tx, ReplyRest::Prepare),
             Words::Tells { outcome, to } => match outcome {
-                Status::Committed => outgoing(*to, Kind::Commit(*tx)),
-                Status::Aborted => outgoing(*to, Kind::Abort(*tx)),
+                Status::Committed => sent(*to, tx, ReplyRest::Commit),
+                Status::Aborted => sent(*to, tx, ReplyRest::Abort),
                 Status::Unknown | Status::Undecided => unreachable!(),
             },
             Words::Begins { ballot, bundled } => first_phase(tx, *ballot, *bundled, i),
             Words::Proposes { ballot, proposals } => {
                 let proposal = proposals.as_slice()[i];
-                let message = Kind::P2a {
-                    tx: *tx,
+                let rest = ReplyRest::P2a {
                     instance: proposal.instance,
                     ballot: *ballot,
                     vote: proposal.vote,
                 };
-                outgoing(Address::Acceptors, message)
+                sent(Address::Acceptors, tx, rest)
             }
         }
     }
 }
 
-fn outgoing(to: Address, message: Kind) -> Outgoing
-    requires { IsMessage message }
-    ensures { result ≡ to_of to message }
+fn sent<'a>(to: Address, tx: &SpelledTx<'a>, rest: ReplyRest) -> SentReply<'a>
+    requires { IsMessage (replied tx.now rest) }
+    ensures { to_of result.to result.message ≡ to_of to (replied tx.now rest) }
 {
-    Outgoing {
+    SentReply {
         to,
-        message: Message::new(message),
+        message: Reply::new(tx, rest),
     }
 }
 
 /// Phase 1a of a place.
-fn first_phase(tx: &Tx, ballot: Ballot, bundled: bool, i: usize) -> Outgoing
+fn first_phase<'a>(tx: &SpelledTx<'a>, ballot: Ballot, bundled: bool, i: usize) -> SentReply<'a>
     requires ballot { IsLeaderBallot ballot }
     requires within { i < length (phase_1a_by bundled tx.now ballot) }
-    ensures { result ≡ slice_index_or (phase_1a_by bundled tx.now ballot) i result }
+    ensures { to_of result.to result.message
+        ≡ slice_index_or (phase_1a_by bundled tx.now ballot) i (to_of result.to result.message) }
 {
     let _ = tx.count();
     if bundled {
-        return outgoing(Address::Acceptors, Kind::B1a { tx: *tx, ballot });
+        return sent(Address::Acceptors, tx, ReplyRest::B1a { ballot });
     }
     let instance = tx.rm(i);
-    let message = Kind::P1a {
-        tx: *tx,
-        instance,
-        ballot,
-    };
-    outgoing(Address::Acceptors, message)
+    sent(Address::Acceptors, tx, ReplyRest::P1a { instance, ballot })
 }

@@ -5,8 +5,9 @@ use crate::names::Name;
 use crate::posts::Post;
 use anyhow::{Result, bail};
 use node_core::{Config, Input, Output};
-use protocol::{Action, Boxed, Change, NodeId, Request, Row, View};
+use protocol::{Action, Change, NodeId, Request, Row, View};
 use std::alloc::Global;
+use wire::OwnedTx;
 use xid::Sequence;
 
 /// In how many rounds the datagrams of a transaction are handed over, at most: a question, a vote, its acceptance and the outcome.
@@ -110,7 +111,7 @@ impl Cluster {
         self.call(name, put)?;
         self.call(name, Action::End)?;
         let before = self.committed;
-        let tx = Boxed::new(self.alloc, name.tx()?)?;
+        let tx = OwnedTx::new(self.alloc, &name.tx()?)?;
         self.hand_over(NodeId::L(0), Input::Asked(&Request::Commit { tx }))?;
         self.settle()?;
         if self.committed == before {

@@ -10,8 +10,8 @@ use crate::stop::Stop;
 use crate::word::{Word, is_word};
 use crate::words::split_once;
 use hex::FromHexError;
-use protocol::Boxed;
 use std::alloc::Global;
+use wire::OwnedTx;
 use xid::text::lacks_capitals;
 use xid::{Bytes, FORMATS, Floor, MAX_COMPONENT, Sequence, Tx, Xid};
 
@@ -80,7 +80,7 @@ impl Word for Xid {
     }
 }
 
-impl Word for Boxed<Tx> {
+impl Word for OwnedTx {
     ghost fits = { IsTx };
 
     ghost text = { tx_text };
@@ -89,11 +89,11 @@ impl Word for Boxed<Tx> {
 
     ghost spelling = { a_tx };
 
-    fn read(alloc: Global, word: &[u8]) -> Result<Boxed<Tx>, Stop> {
+    fn read(alloc: Global, word: &[u8]) -> Result<OwnedTx, Stop> {
         let Ok(tx) = Tx::read(word) else {
             return Err(Stop::Wrong);
         };
-        Boxed::new(alloc, tx).ok().ok_or(Stop::Memory)
+        OwnedTx::new(alloc, &tx).ok().ok_or(Stop::Memory)
     }
 }
 

@@ -14,12 +14,13 @@ ghost use Rattle.net_script.specs.Writing.{Puts};
 
 use crate::nodes::{Leader, Manager, Party};
 use crate::pieces::{
-    put_bytes_word, put_floor, put_manager, put_node, put_number, put_tx, put_word, put_xid,
+    put_bytes_word, put_floor, put_manager, put_node, put_number, put_word, put_xid,
 };
 use crate::stop::{Stop, or_none};
 use crate::values::Command;
 use crate::word::{Words, is_word};
 use crate::words::{is_over, next_word};
+use crate::written::put_spelled;
 use protocol::{Action, Event, NodeId, Request};
 use std::alloc::Global;
 use xid::{Refusal, Xid};
@@ -230,7 +231,7 @@ fn put_request(out: &mut Vec<u8>, request: &Request) -> Result<(), Refusal>
         Request::View { tx }
         | Request::Commit { tx }
         | Request::Status { tx }
-        | Request::Timeout { tx } => put_tx(out, tx.get()),
+        | Request::Timeout { tx } => put_spelled(out, &tx.get()),
     }
 }
 

@@ -9,9 +9,10 @@ ghost use Rattle.net_script.specs.Lines.{IsFirstPiece, IsFirstWord, words, node_
 use crate::stop::or_none;
 use crate::word::Words;
 use memchr::memchr;
-use protocol::{Boxed, NodeId};
+use protocol::NodeId;
 use std::alloc::Global;
-use xid::{Refusal, Tx, text};
+use wire::OwnedTx;
+use xid::{Refusal, text};
 
 /// The text before the first mark, and the text after it. None where the mark isn't there.
 pub(crate) fn split_once(text: &[u8], mark: u8) -> Option<(&[u8], &[u8])>
@@ -148,7 +149,7 @@ pub fn last_node(args: &[u8]) -> Option<NodeId>
 }
 
 /// The transaction that is the only word, or none.
-pub fn last_tx(alloc: Global, args: &[u8]) -> Result<Option<Boxed<Tx>>, Refusal>
+pub fn last_tx(alloc: Global, args: &[u8]) -> Result<Option<OwnedTx>, Refusal>
     ensures { Reads IsTx (λ tx. tx_text tx ∷ []) (words args.now) result }
 {
     let Some((tx, ())) = or_none(Words::read(alloc, args))? else {

@@ -22,6 +22,7 @@ fn put_branch<'a>(bytes: &'a [u8], out: &mut Vec<u8>) -> Result<&'a [u8], Refusa
     ensures ok { IfOk result (λ rest. (branch : BranchParts) (after : List ℕ) → branch_at version_2 bytes.now ≡ Some (branch, after)
         → (rest.now ≡ after) × (out.new.items ≡ out.old.items ++ branch_text branch)) }
     ensures err { IfErr result (λ e. e ≡ NoMemory) }
+    ensures kept { OnErr result (Extends out.old.items out.new.items) }
 {
     let Some((rm, rest)) = take_rm(VersionNumber::Second, bytes) else {
         unreachable!();
@@ -40,6 +41,7 @@ fn put_branch<'a>(bytes: &'a [u8], out: &mut Vec<u8>) -> Result<&'a [u8], Refusa
 fn put_text(tx: &SpelledTx<'_>, out: &mut Vec<u8>) -> Result<(), Refusal>
     ensures ok { OnOk result (out.new.items ≡ out.old.items ++ tx_text tx.now) }
     ensures err { IfErr result (λ e. e ≡ NoMemory) }
+    ensures kept { OnErr result (Extends out.old.items out.new.items) }
 {
     let Some((format, gtrid, rest)) = take_name(tx.as_bytes()) else {
         unreachable!();
@@ -57,6 +59,15 @@ fn put_text(tx: &SpelledTx<'_>, out: &mut Vec<u8>) -> Result<(), Refusal>
         rest = put_branch(rest, out)?;
     }
     Ok(())
+}
+
+/// Writes a transaction as a word, by the bytes that spell it. Refused: `NoMemory` alone.
+pub(crate) fn put_spelled(out: &mut Vec<u8>, tx: &SpelledTx<'_>) -> Result<(), Refusal>
+    ensures puts { Puts out.old.items out.new.items result (32 ∷ tx_text tx.now) }
+    ensures kept { OnErr result (Extends out.old.items out.new.items) }
+{
+    out.push(b' ')?;
+    put_text(tx, out)
 }
 
 /// A transaction as it is spelled, and its text. None was written at first.

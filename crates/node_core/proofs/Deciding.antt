@@ -1,12 +1,12 @@
 -- What a part decides is what its node does.
--- Needed by 11 functions of this crate; Playing.
+-- Needed by 9 functions of this crate; Playing.
 use Rattle.std.proofs.lemmas.Bool.{cond_both}
 use Rattle.std.proofs.Common.{unwrap_or, ◌≡◌, ◌∙◌, ℕ, true, false, not, ◌||◌, List, [], ◌∷◌, ◌++◌, Option, Some, None, refl, sym, ap, subst}
 use Rattle.ballot.specs.Ballots.{next_of}
 use Rattle.protocol.specs.Effects.{stores, Config, Effect, decision_of, is_inside}
 use Rattle.protocol.specs.declared.decisions.Outgoing.{Outgoing}
-use Rattle.node_core.specs.Roles.{memory_after, RoleStands, IsLeft, IsDecided, Decides, answering}
-use Rattle.std.specs.Prelude.{IfSome, IfNone, Err, nat_lt, ◌^◌}
+use Rattle.node_core.specs.Roles.{memory_after, RoleStands, IsLeft, IsDecided, Decides, Rule, answering}
+use Rattle.std.specs.Prelude.{IfErr, IfSome, IfNone, OnOk, Result, Ok, Err, nat_lt, ◌^◌}
 use Rattle.xid.specs.Names.{XidParts}
 use Rattle.xid.specs.Transactions.{TxParts, xid_at}
 use Rattle.xid.specs.declared.refusals.Refusal.{Refusal}
@@ -185,6 +185,15 @@ commit_decides old new d tx h config (L l) facts memory s =
     leader_follows old new d (λ stored memory. rules.on_commit_call config stored memory tx) config l facts memory
     (commit_stores_nothing config (last_ballot facts) memory.leader tx) (h config l) s
 
+-- it refuses for want of memory alone
+pub commit_refused : (old new : LeaderParts) (d : LeaderDecision) (tx : TxParts) (result : Result (Unit {0}) Refusal)
+    → ((config : Config) (number : ℕ) → FollowsOrRefuses config number old new (leader_specs.decided d result)
+    (λ stored memory. rules.on_commit_call config stored memory tx))
+    → IfErr result (λ e. e ≡ NoMemory)
+commit_refused old new d tx (Ok done) h = tt
+commit_refused old new d tx (Err refusal) h =
+    refused_memory no_config 0 old new (λ stored memory. rules.on_commit_call no_config stored memory tx) refusal (h no_config 0)
+
 -- so it is for a call of a status
 pub status_decides : (p : LeaderParts) (d : LeaderDecision) (tx : TxParts)
     → ((config : Config) (number : ℕ) → Follows config number p p d
@@ -291,7 +300,30 @@ asked_so old new d e r s is_d is_r h =
     let P : Decision → Request → Type 0 = λ x y. Decides old new x (λ config who facts memory. on_request config who facts memory y) in
     subst (λ x. P x r) (sym is_d) (subst (λ y. P e y) (sym is_r) h)
 
--- what a leader decided, once its parts stand apart, beside no other message
+-- so it is where a call to commit may refuse
+pub commit_asked : (old new : LeaderParts) (d : LeaderDecision) (tx : TxParts) (result : Result (Unit {0}) Refusal) (r : Request)
+    → r ≡ requests.Commit tx
+    → ((config : Config) (number : ℕ) → FollowsOrRefuses config number old new (leader_specs.decided d result)
+    (λ stored memory. rules.on_commit_call config stored memory tx))
+    → OnOk result (Decides (Role.Leader old) (Role.Leader new) (leader_decisions.shown d)
+    (λ config who facts memory. on_request config who facts memory r))
+commit_asked old new d tx (Ok done) r is h = asked_so _ _ _ _ _ _ refl is (commit_decides old new d tx h)
+commit_asked old new d tx (Err refusal) r is h = tt
+
+-- what is decided, once its parts stand apart, beside no other message
+pub asked_apart : (old new : Role) (rule : Rule) (d : LeaderDecision) (answer : Answer) (fact : Option Fact)
+    (replied first question : List Outgoing) → answer ≡ d.answer → fact ≡ d.fact → replied ≡ [] → first ≡ [] → question ≡ []
+    → Decides old new (leader_decisions.shown d) rule
+    → Decides old new (record { answer = answer; fact = fact; sends = replied ++ (first ++ question ++ d.sends) }) rule
+asked_apart old new rule d answer fact replied first question answer_is fact_is replied_is first_is question_is h =
+    subst (λ (x : Decision). Decides old new x rule)
+    (λ i. record {
+      answer = sym answer_is i;
+      fact = sym fact_is i;
+      sends = sym replied_is i ++ (sym first_is i ++ sym question_is i ++ d.sends);
+    }) h
+
+-- so it is on a message
 pub led_follows : (config : Config) (number : ℕ) (old new : LeaderParts) (rule : leader_specs.Rule) (d : LeaderDecision) (answer : Answer)
     (fact : Option Fact) (replied first question : List Outgoing) → answer ≡ d.answer → fact ≡ d.fact → replied ≡ [] → first ≡ []
     → question ≡ [] → Follows config number old new d rule

@@ -1,5 +1,5 @@
 -- What is read of a record that is left as it is.
--- Needed by 9 functions of this crate.
+-- Needed by 10 functions of this crate.
 use Rattle.std.proofs.Common.{◌≡◌, ◌∙◌, ℕ, Bool, List, Option, Some, None, inl, inr, refl, sym, ap, subst}
 use Rattle.std.specs.Prelude.{◌⊎◌, Result, Ok, Err, drop}
 use Rattle.std.specs.List.{list_all}
@@ -15,9 +15,12 @@ use Rattle.protocol.specs.declared.rows.Row.{Row}
 use Rattle.protocol.specs.declared.states.View.{View}
 use Rattle.protocol.specs.Effects.{Config}
 use Rattle.protocol.specs.LeaderMemory.{LeaderMemory}
+use Rattle.protocol.specs.Managers.{Branch, on_view_call, stored_votes}
 use Rattle.protocol.specs.Nodes.{NodeState, Memory, empty_memory}
 use Rattle.leader.specs.Leaders as of_leader
 use Rattle.leader.specs.Leaders.{LeaderParts}
+use Rattle.resource_manager.specs.Managers as of_manager
+use Rattle.resource_manager.specs.Managers.{ManagerParts, view_answer}
 use Rattle.node_core.specs.declared.config.Sizes.{Sizes}
 use Rattle.node_core.specs.declared.role.Role.{Role}
 use Rattle.node_core.specs.Roles.{RoleStands}
@@ -39,6 +42,16 @@ abbrev pub TablesAll : Role → Result (List Row) Refusal → Type 0
 TablesAll role result =
     (config : Config) (who : NodeId) (facts : List Fact) (memory : Memory) → RoleStands config who role facts memory
     → SaysTable config who facts result
+
+-- a resource manager that says where it stands in a transaction, or in one that is the same, says so as a role
+pub manager_says : (p : ManagerParts) (tx same : TxParts) (result : Result View Refusal) → same ≡ tx
+    → ((config : Config) (number : ℕ) (facts : List Fact) (branches : List Branch) → of_manager.StandsFor config number p facts branches
+    → view_answer result ≡ (on_view_call config number (stored_votes number facts) branches same).answer)
+    → SaysAll (Role.Manager p) tx result
+manager_says p tx same result is h config (A a) facts memory s = absurd s
+manager_says p tx same result is h config (L l) facts memory s = absurd s
+manager_says p tx same result is h config (R rm) facts memory s =
+    subst (λ (t : TxParts). SaysView config (R rm) facts t result) is (h config rm facts memory.branches s)
 
 -- a leader that says of its facts whether none is about a name at or above a place says so as a role
 pub leader_tells : (place : Place) (p : LeaderParts) (unused : Bool)

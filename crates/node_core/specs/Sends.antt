@@ -1,5 +1,5 @@
 -- What a node sends, as the machine has it.
-use Rattle.std.specs.Prelude.{◌≡◌, ℕ, ◌<◌, ◌≤◌, ◌+◌, length, List, [], ◌∷◌, take, Option, Some, None, Result, Ok, Err}
+use Rattle.std.specs.Prelude.{◌≡◌, ℕ, ◌<◌, ◌≤◌, ◌+◌, length, List, [], ◌∷◌, slice_index_or, take, Option, Some, None, Result, Ok, Err}
 use Rattle.wire.specs.declared.message.Kind.{Kind}
 use Rattle.wire.specs.declared.grammar.TheConstants.{MAX_MESSAGE_BYTES}
 use Rattle.wire.specs.Grammar.{Spells}
@@ -30,3 +30,9 @@ pub record IsReplied (len : ℕ) (bytes : List ℕ) : Type 0 where
 pub record AreSends (replied reminded question led : List Outgoing) : Type 0 where
   pub by_leader : 0 < length led → length reminded + length question ≡ 0
   pub by_reply : 0 < length replied → length reminded + length question + length led ≡ 0
+
+-- bytes spell the message of a place, which is for these
+pub record IsSpelledAt (sends : List Outgoing) (i : ℕ) (to : Address) (bytes : List ℕ) : Type 0 where
+  pub message : Kind
+  pub spells : Spells message bytes
+  pub there : record { to = to; message = message } ≡ slice_index_or sends i (record { to = to; message = message })

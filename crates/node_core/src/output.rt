@@ -6,7 +6,6 @@ ghost use Rattle.node_core.specs.Storing.{output_of, stopped_output, change_made
 
 use crate::sends::{NodeSends, forget_fact};
 use crate::storing::Stopped;
-use leader::LeaderSends;
 use protocol::{Answer, Change, NodeId, Request, SentReply, View};
 use resource_manager::Reminder;
 use stable_record::{Fact, FactRest, FactView};
@@ -116,14 +115,6 @@ impl Output {
                 self.put_change_by(who, fact);
             }
         }
-    }
-
-    /// What a leader answers and sends.
-    pub(crate) fn put_led(&mut self, reply: Answer, sends: LeaderSends)
-        ensures { self.new ≡ record { reply = reply; now = self.old.now; sends = sends } }
-    {
-        self.reply = reply;
-        self.sends.put_led(sends);
     }
 
     /// What a resource manager is reminded of at a timeout. There is no fact to store.

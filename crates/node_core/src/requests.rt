@@ -6,6 +6,7 @@ ghost use Rattle.protocol.specs.declared.answers.Answer.TheVariants.{Refused};
 ghost use Rattle.protocol.specs.declared.requests.Request.TheVariants as requests;
 ghost use Rattle.protocol.specs.Effects.{Config, view_standing};
 ghost use Rattle.protocol.specs.Nodes.{on_request, accepts_request as is_accepted};
+ghost use Rattle.leader.specs.Decisions.{shown};
 ghost use Rattle.resource_manager.specs.Managers.{IsCall};
 ghost use Rattle.node_core.specs.declared.role.Role.TheVariants as roles;
 ghost use Rattle.node_core.specs.Roles.{Decides, decided, answering};
@@ -13,11 +14,12 @@ ghost use Rattle.node_core.specs.Sparing.{is_ending, leads_freely, manages_freel
 
 use crate::output::Output;
 use branch_table::Ending;
-use leader::Leader;
+use leader::{Leader, LeaderDecision};
 use protocol::{Action, Answer, NodeId, Request, Standing, View};
 use resource_manager::ResourceManager;
 use stable_record::Fact;
-use xid::{Refusal, Tx, Xid};
+use wire::SpelledTx;
+use xid::{Refusal, Xid};
 
 /// Whether a kind of node takes a request: an acceptor none, a leader those on transactions, a resource manager the client calls too.
 pub fn accepts_request(who: NodeId, request: &Request) -> bool
@@ -39,77 +41,32 @@ pub fn accepts_request(who: NodeId, request: &Request) -> bool
     }
 }
 
-/// What a leader does on a request.
-pub(crate) fn at_leader(
+/// What a leader decides on a request, in place of what was decided before.
+pub(crate) fn lead(
     leader: &mut Leader,
     request: &Request,
-    out: &mut Output,
-    fact: &mut Option<Fact>,
+    decision: &mut LeaderDecision,
 ) -> Result<(), Refusal>
-    ensures ok { OnOk result (Decides (roles.Leader leader.old) (roles.Leader leader.new) (decided fact.new out.new)
+    ensures ok { OnOk result (Decides (roles.Leader leader.old) (roles.Leader leader.new) (shown decision.new)
         (λ config who facts memory. on_request config who facts memory request.now)) }
     ensures err { IfErr result (λ e. e ≡ NoMemory) }
     ensures free { leads_freely request.now ≡ true → IsOk result }
 {
     match request {
-        Request::Commit { tx } => commit(leader, tx.get(), out, fact),
+        Request::Commit { tx } => leader.commit(&tx.get(), decision),
         Request::Status { tx } => {
-            tell_status(leader, tx.get(), out, fact);
+            leader.status(&tx.get(), decision);
             Ok(())
         }
         Request::Timeout { tx } => {
-            time_out(leader, tx.get(), out, fact);
+            leader.timeout(&tx.get(), decision);
             Ok(())
         }
         Request::Call { .. } | Request::Recover | Request::View { .. } => {
-            not_taken(out, fact);
+            decision.refuse(Refusal::NoSuch);
             Ok(())
         }
     }
-}
-
-/// What a leader does on a commit.
-#[inline(never)]
-fn commit(
-    leader: &mut Leader,
-    tx: &Tx,
-    out: &mut Output,
-    fact: &mut Option<Fact>,
-) -> Result<(), Refusal>
-    ensures ok { OnOk result (Decides (roles.Leader leader.old) (roles.Leader leader.new) (decided fact.new out.new)
-        (λ config who facts memory. on_request config who facts memory (requests.Commit tx.now))) }
-    ensures err { IfErr result (λ e. e ≡ NoMemory) }
-{
-    match leader.commit(tx) {
-        Ok(decision) => {
-            out.put_led(decision.answer, decision.sends);
-            *fact = decision.fact;
-            Ok(())
-        }
-        Err(refusal) => Err(refusal),
-    }
-}
-
-/// What a leader does where its status is asked for.
-#[inline(never)]
-fn tell_status(leader: &Leader, tx: &Tx, out: &mut Output, fact: &mut Option<Fact>)
-    ensures { Decides (roles.Leader leader.now) (roles.Leader leader.now) (decided fact.new out.new)
-        (λ config who facts memory. on_request config who facts memory (requests.Status tx.now)) }
-{
-    let decision = leader.status(tx);
-    out.put_led(decision.answer, decision.sends);
-    *fact = decision.fact;
-}
-
-/// What a leader does at a timeout.
-#[inline(never)]
-fn time_out(leader: &mut Leader, tx: &Tx, out: &mut Output, fact: &mut Option<Fact>)
-    ensures { Decides (roles.Leader leader.old) (roles.Leader leader.new) (decided fact.new out.new)
-        (λ config who facts memory. on_request config who facts memory (requests.Timeout tx.now)) }
-{
-    let decision = leader.timeout(tx);
-    out.put_led(decision.answer, decision.sends);
-    *fact = decision.fact;
 }
 
 /// What a resource manager does on a request.
@@ -134,11 +91,11 @@ pub(crate) fn at_manager(
             Ok(())
         }
         Request::View { tx } => {
-            show(manager, tx.get(), out, fact);
+            show(manager, &tx.get(), out, fact);
             Ok(())
         }
         Request::Timeout { tx } => {
-            remind(manager, tx.get(), out, fact);
+            remind(manager, &tx.get(), out, fact);
             Ok(())
         }
         Request::Commit { .. } | Request::Status { .. } => {
@@ -150,7 +107,7 @@ pub(crate) fn at_manager(
 
 /// What a resource manager does where its view is asked for.
 #[inline(never)]
-fn show(manager: &ResourceManager, tx: &Tx, out: &mut Output, fact: &mut Option<Fact>)
+fn show(manager: &ResourceManager, tx: &SpelledTx<'_>, out: &mut Output, fact: &mut Option<Fact>)
     ensures { Decides (roles.Manager manager.now) (roles.Manager manager.now) (decided fact.new out.new)
         (λ config who facts memory. on_request config who facts memory (requests.View tx.now)) }
 {
@@ -162,7 +119,7 @@ fn show(manager: &ResourceManager, tx: &Tx, out: &mut Output, fact: &mut Option<
 
 /// What a resource manager does at a timeout.
 #[inline(never)]
-fn remind(manager: &ResourceManager, tx: &Tx, out: &mut Output, fact: &mut Option<Fact>)
+fn remind(manager: &ResourceManager, tx: &SpelledTx<'_>, out: &mut Output, fact: &mut Option<Fact>)
     ensures { Decides (roles.Manager manager.now) (roles.Manager manager.now) (decided fact.new out.new)
         (λ config who facts memory. on_request config who facts memory (requests.Timeout tx.now)) }
 {

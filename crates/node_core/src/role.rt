@@ -7,7 +7,7 @@ ghost use Rattle.node_core.specs.Sparing.{serves_freely};
 ghost use Rattle.node_core.specs.Viewing.{TellsUnused};
 
 use crate::output::Output;
-use crate::requests::{at_leader, at_manager, not_taken};
+use crate::requests::{at_manager, not_taken};
 use acceptor::Acceptor;
 use hashing::HashKey;
 use leader::Leader;
@@ -66,7 +66,7 @@ impl Role {
                 not_taken(out, fact);
                 Ok(())
             }
-            Role::Leader(leader) => at_leader(leader, request, out, fact),
+            Role::Leader(leader) => out.sends.ask(leader, request, &mut out.reply, fact),
             Role::Manager(manager) => at_manager(manager, request, out, fact),
         }
     }

@@ -1,20 +1,27 @@
-ghost use Rattle.std.specs.Prelude.{◌≡◌, ℕ, ◌<◌, [], ◌++◌, ◌≤◌, ◌∷◌, length, slice_index_or, IfSome, Option, None};
+ghost use Rattle.std.specs.Prelude.{◌≡◌, ℕ, ◌<◌, [], ◌++◌, ◌≤◌, ◌∷◌, length, slice_index_or, take, true};
+ghost use Rattle.std.specs.Prelude.{IfErr, IfSome, IsOk, OnOk, Option, None};
+ghost use Rattle.xid.specs.declared.refusals.Refusal.TheVariants.{NoMemory};
 ghost use Rattle.wire.specs.declared.message.Kind.{Kind};
 ghost use Rattle.wire.specs.Grammar.{Spells};
 ghost use Rattle.stable_record.specs.declared.fact.FactKind.{FactKind};
 ghost use Rattle.protocol.specs.Decisions.{sent_reply};
 ghost use Rattle.protocol.specs.Effects.{Config};
 ghost use Rattle.protocol.specs.Leaders.{on_leader_message};
+ghost use Rattle.protocol.specs.Nodes.{on_request};
 ghost use Rattle.leader.specs.Leaders.{FollowsOrRefuses};
-ghost use Rattle.node_core.specs.Sends.{led};
+ghost use Rattle.node_core.specs.declared.role.Role.TheVariants as roles;
+ghost use Rattle.node_core.specs.Roles.{Decides};
+ghost use Rattle.node_core.specs.Sends.{led, IsSpelledAt};
+ghost use Rattle.node_core.specs.Sparing.{leads_freely};
 
 use crate::replied::Replied;
-use leader::{Leader, LeaderDecision, LeaderSends};
-use protocol::{Address, Answer, Outgoing, Sends, SentReply};
+use crate::requests::lead;
+use leader::{Leader, LeaderDecision};
+use protocol::{Address, Answer, Outgoing, Request, Sends, SentReply};
 use stable_record::Fact;
 use std::marker::Model;
 use std::mem;
-use wire::{MAX_MESSAGE_BYTES, MessageView};
+use wire::{MAX_DATAGRAM, MAX_MESSAGE_BYTES, MessageView, encode};
 use xid::Refusal;
 
 /// The messages that a node sends, in order, which a contract sees as the list of them. To make them takes no memory. There is a place
@@ -55,17 +62,6 @@ impl Model for NodeSends {
     ghost invariant = { λ s. AreSends s.replied s.reminded s.question s.led.sends };
 }
 
-/// No message of a leader any more.
-#[tactic(auto, using(std::proofs::lemmas::List::nil_from_length))]
-fn forget_led(sends: &mut LeaderSends)
-    ensures { sends.new ≡ [] }
-{
-    if sends.count() == 0 {
-        return;
-    }
-    *sends = LeaderDecision::nothing().sends;
-}
-
 /// No fact any more.
 pub(crate) fn forget_fact(fact: &mut Option<Fact>)
     ensures { fact.new ≡ None }
@@ -74,6 +70,26 @@ pub(crate) fn forget_fact(fact: &mut Option<Fact>)
         return;
     };
     *fact = None;
+}
+
+/// A fact, or none, in place of another.
+fn take_fact(from: &mut Option<Fact>, to: &mut Option<Fact>)
+    ensures { to.new ≡ from.old }
+{
+    if from.is_some() {
+        *to = from.take();
+    } else {
+        forget_fact(to);
+    }
+}
+
+/// The message that is sent, by itself.
+fn outgoing_of(reply: &SentReply<'_>) -> Outgoing
+    ensures { result ≡ record { to = reply.now.to; message = reply.now.message } }
+{
+    let mut one = Replied::none();
+    one.put(reply);
+    one.get()
 }
 
 impl NodeSends {
@@ -96,7 +112,7 @@ impl NodeSends {
         self.replied.clear();
         self.reminded.clear();
         self.question.clear();
-        forget_led(&mut self.led.sends);
+        self.led.sends.clear();
     }
 
     /// What an acceptor or a resource manager sends on a message, in place of what was sent before.
@@ -130,6 +146,30 @@ impl NodeSends {
         Ok(())
     }
 
+    /// What a leader sends on a request, in place of what was sent before; beside it the answer is left, and the fact that is to be stored
+    /// before. Refused as the leader refuses.
+    pub(crate) fn ask(
+        &mut self,
+        leader: &mut Leader,
+        request: &Request,
+        reply: &mut Answer,
+        fact: &mut Option<Fact>,
+    ) -> Result<(), Refusal>
+        ensures ok { OnOk result (Decides (roles.Leader leader.old) (roles.Leader leader.new)
+            (record { answer = reply.new; fact = fact.new; sends = self.new })
+            (λ config who facts memory. on_request config who facts memory request.now)) }
+        ensures err { IfErr result (λ e. e ≡ NoMemory) }
+        ensures free { leads_freely request.now ≡ true → IsOk result }
+    {
+        self.replied.clear();
+        self.reminded.clear();
+        self.question.clear();
+        lead(leader, request, &mut self.led)?;
+        *reply = mem::replace(&mut self.led.answer, Answer::Done);
+        take_fact(&mut self.led.fact, fact);
+        Ok(())
+    }
+
     /// What a resource manager sends when nothing was heard for too long, in place of what was sent before.
     pub(crate) fn remind(&mut self, vote: Sends, question: Sends)
         ensures { self.new ≡ vote ++ question }
@@ -137,17 +177,7 @@ impl NodeSends {
         self.replied.clear();
         self.reminded = vote;
         self.question = question;
-        forget_led(&mut self.led.sends);
-    }
-
-    /// What a leader sends, in place of what was sent before.
-    pub(crate) fn put_led(&mut self, sends: LeaderSends)
-        ensures { self.new ≡ sends }
-    {
-        self.replied.clear();
-        self.reminded.clear();
-        self.question.clear();
-        self.led.sends = sends;
+        self.led.sends.clear();
     }
 
     /// How many there are.
@@ -194,6 +224,21 @@ impl NodeSends {
         if i - first.len() < question.len() {
             return question[i - first.len()];
         }
-        self.led.sends.at(i - first.len() - question.len())
+        outgoing_of(&self.led.sends.at(i - first.len() - question.len()))
+    }
+
+    /// Spells the message of a place at the front of `out`, and answers whom it is for, and how many bytes it has.
+    pub fn spell(&self, i: usize, out: &mut [u8; MAX_DATAGRAM]) -> (Address, usize)
+        requires { i < length self.now }
+        ensures few { result.1 ≤ MAX_MESSAGE_BYTES }
+        ensures spells { IsSpelledAt self.now i result.0 (take result.1 out.new) }
+    {
+        if self.led.sends.count() > 0 {
+            let sent = &self.led.sends.at(i);
+            return (sent.to, sent.message.encode(out));
+        }
+        let outgoing = &self.at(i);
+        let _ = outgoing.message.kind();
+        (outgoing.to, encode(&outgoing.message, out))
     }
 }

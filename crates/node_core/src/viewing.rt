@@ -20,6 +20,7 @@ use hashing::HashKey;
 use protocol::{NodeId, Row, View};
 use stable_record::Record;
 use std::alloc::Global;
+use wire::{MAX_TX_BYTES, SpelledTx};
 use xid::{Floor, Refusal, Sequence, Tx};
 
 /// Reads a record and plays its entries, and leaves it as it is. Refused: its bytes are no frames of entries that play, and a tail
@@ -54,7 +55,10 @@ fn view_of(role: &Role, tx: &Tx) -> Result<View, Refusal>
         → SaysView config who facts tx.now result }
 {
     match role {
-        Role::Manager(manager) => manager.view(tx),
+        Role::Manager(manager) => {
+            let mut buffer = [0; MAX_TX_BYTES];
+            manager.view(&SpelledTx::of(tx, &mut buffer))
+        }
         Role::Acceptor(_) => Err(Refusal::NoSuch),
         Role::Leader(_) => Err(Refusal::NoSuch),
     }

@@ -16,12 +16,13 @@ use hashing::WordKey;
 use indexmap::IndexMap;
 use node_core::Input;
 use port::Member;
-use protocol::{Boxed, NodeId, Request};
+use protocol::{NodeId, Request};
 use serving::{Client, Clients, Item, Origin, Stage, Wish, Work};
 use stable_record::Record;
 use std::alloc::Global;
 use std::time::{Duration, Instant};
-use xid::{Refusal, Tx};
+use wire::SpelledTx;
+use xid::Refusal;
 
 /// How many seconds the end of a transaction is awaited at most.
 const MOST_AWAITED: u64 = 60;
@@ -35,8 +36,8 @@ pub(crate) fn awaited_until(now: Instant) -> Instant
 }
 
 /// The transaction whose end a piece of work awaits, if it is an await.
-fn awaited_by(work: &Work) -> Option<&Tx>
-    ensures { MatchOption result (is_await work.now ≡ false) (λ tx. work.now ≡ works.Say (wishes.Await tx.now)) }
+fn awaited_by(work: &Work) -> Option<SpelledTx<'_>>
+    ensures { MatchOption result (is_await work.now ≡ false) (λ tx. work.now ≡ works.Say (wishes.Await tx)) }
 {
     match work {
         Work::Say(Wish::Await(tx)) => Some(tx.get()),
@@ -92,7 +93,7 @@ fn begin_one(
     let Some(tx) = awaited_by(&item.work) else {
         return Ok(());
     };
-    let request = question_of(alloc, who, tx)?;
+    let request = question_of(alloc, who, &tx)?;
     begin_await(clients, item.origin, request, until);
     Ok(())
 }
@@ -117,7 +118,7 @@ pub(crate) fn begin_awaits(
 }
 
 /// The transaction whose end is awaited.
-fn awaited_tx(request: &Request) -> Option<&Tx> {
+fn awaited_tx(request: &Request) -> Option<SpelledTx<'_>> {
     match request {
         Request::Status { tx } | Request::View { tx } => Some(tx.get()),
         _ => None,
@@ -125,7 +126,7 @@ fn awaited_tx(request: &Request) -> Option<&Tx> {
 }
 
 /// Whether what is awaited is to be asked now: for the first time, when its time has come, or when the outcome came to be known.
-fn is_to_ask(stage: &Stage, ended: &IndexMap<Tx, (), WordKey>, now: Instant) -> bool {
+fn is_to_ask(stage: &Stage, ended: &IndexMap<Vec<u8>, (), WordKey>, now: Instant) -> bool {
     let Stage::Awaiting {
         request,
         until,
@@ -138,7 +139,7 @@ fn is_to_ask(stage: &Stage, ended: &IndexMap<Tx, (), WordKey>, now: Instant) -> 
         return true;
     }
     match awaited_tx(request) {
-        Some(tx) => ended.contains_key(tx),
+        Some(tx) => ended.contains_key(tx.as_bytes()),
         None => false,
     }
 }
@@ -161,7 +162,7 @@ fn answer_await<R: Record>(
 /// Whether the client at a key is to hear how its transaction stands, if it waits.
 fn is_to_hear(
     clients: &Clients,
-    ended: &IndexMap<Tx, (), WordKey>,
+    ended: &IndexMap<Vec<u8>, (), WordKey>,
     are_all: bool,
     key: usize,
     now: Instant,
@@ -192,7 +193,7 @@ fn answer_at<R: Record>(
 fn answer_due<R: Record>(
     node: &mut Member<R>,
     clients: &mut Clients,
-    ended: &IndexMap<Tx, (), WordKey>,
+    ended: &IndexMap<Vec<u8>, (), WordKey>,
     are_all: bool,
     key: usize,
     now: Instant,
@@ -210,7 +211,7 @@ fn answer_due<R: Record>(
 pub(crate) fn answer_awaited<R: Record>(
     node: &mut Member<R>,
     clients: &mut Clients,
-    ended: &IndexMap<Tx, (), WordKey>,
+    ended: &IndexMap<Vec<u8>, (), WordKey>,
     are_all: bool,
     now: Instant,
 ) -> Result<(), Refusal>

@@ -12,12 +12,13 @@ use crate::desk::Desk;
 use crate::standing::is_open_at;
 use letter_port::LetterPort;
 use port::{MAX_TAKEN, Member, Port};
-use protocol::{Boxed, NodeId, Request};
+use protocol::{NodeId, Request};
 use serving::{Due, Item, MOST_ITEMS, Origin, Schedule, Turn, Watches, Work};
 use stable_record::Record;
 use std::alloc::{AllocError, Global};
 use std::collections::VecDeque;
 use std::time::Instant;
+use wire::OwnedTx;
 use xid::{Bytes, Refusal};
 
 /// How many inputs of a group are messages at most, so that clients have their turn. What is left of a letter then comes into the next
@@ -58,7 +59,7 @@ fn question_due(
 ) -> Result<Request, Refusal>
     ensures { IfOk result (λ request. request ≡ question_due who due.now.turn due.now.tx) }
 {
-    let tx = Boxed::new(alloc, due.tx)?;
+    let tx = OwnedTx::new(alloc, &due.tx)?;
     match who {
         NodeId::L(_) if schedule.turn(due.turn) == Turn::Again => Ok(Request::Commit { tx }),
         _ => Ok(Request::Timeout { tx }),

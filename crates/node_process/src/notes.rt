@@ -13,8 +13,8 @@ use protocol::{Action, Answer, Change, NodeId, Request, Standing, View};
 use serving::{Branches, Item, Origin, Schedule, Watches, Work, after_one, time_of};
 use std::alloc::{AllocError, Global};
 use std::time::Instant;
-use wire::{Kind, Rest, view_of};
-use xid::{Refusal, Tx, XaCode, Xid};
+use wire::{MAX_DATAGRAM, MAX_TX_BYTES, Rest, SpelledTx, view_of};
+use xid::{Refusal, XaCode, Xid};
 
 /// From which turn on a leader asks after a transaction that it was asked about: that somebody waits for it is known.
 const ASKED: usize = 2;
@@ -28,12 +28,13 @@ pub struct Notes {
     pub watches: Watches,
     /// The branches that clients have started.
     pub branches: Branches,
-    /// The transactions whose outcome came to be known here in this round.
-    pub ended: IndexMap<Tx, (), WordKey>,
+    /// The transactions whose outcome came to be known here in this round, by the bytes that spell them.
+    pub ended: IndexMap<Vec<u8>, (), WordKey>,
     /// Whether a client is there, which may wait for an outcome.
     pub has_clients: bool,
     /// The latest time of a name that was begun here, 0 for none.
     pub latest: u64,
+    alloc: Global,
 }
 
 /// The number of who is answered, 0 for nobody.
@@ -62,15 +63,17 @@ impl Notes {
             ended: IndexMap::with_hasher(alloc, hash_key.words()),
             has_clients: false,
             latest: 0,
+            alloc,
         })
     }
 
     /// A transaction's outcome came to be known, for which a client may wait.
-    fn note_ended(&mut self, tx: &Tx) -> Result<(), Refusal>
+    fn note_ended(&mut self, tx: &SpelledTx<'_>) -> Result<(), Refusal>
         ensures { OnOk result (self.new.branches ≡ self.old.branches) }
     {
         if self.has_clients {
-            let _ = self.ended.insert(*tx, ())?;
+            let bytes = Vec::from_slice(self.alloc, tx.as_bytes())?;
+            let _ = self.ended.insert(bytes, ())?;
         }
         Ok(())
     }
@@ -93,7 +96,8 @@ impl Notes {
             View::Working => {}
             View::Committed | View::Aborted => {
                 self.watches.settle(&change.tx);
-                self.note_ended(&change.tx)?;
+                let mut buffer = [0; MAX_TX_BYTES];
+                self.note_ended(&SpelledTx::of(&change.tx, &mut buffer))?;
             }
         }
         self.forget(change);
@@ -125,19 +129,31 @@ impl Notes {
         if out.sends.count() == 0 || !self.has_clients {
             return Ok(());
         }
-        if let Kind::Commit(tx) | Kind::Abort(tx) = out.sends.at(0).message.kind() {
-            self.note_ended(tx)?;
+        let mut buffer = [0; MAX_DATAGRAM];
+        let (_, len) = out.sends.spell(0, &mut buffer);
+        if let Ok(message) = view_of(&buffer[..len]) {
+            if let Rest::Commit | Rest::Abort = message.rest() {
+                self.note_ended(message.tx())?;
+            }
         }
         Ok(())
     }
 
     /// A leader asks after a transaction from a turn on, where its answer doesn't say that it is final.
-    fn watch(&mut self, tx: &Tx, turn: usize, answer: &Answer, now: Instant) -> Result<(), Refusal>
+    fn watch(
+        &mut self,
+        tx: &SpelledTx<'_>,
+        turn: usize,
+        answer: &Answer,
+        now: Instant,
+    ) -> Result<(), Refusal>
         ensures { OnOk result (self.new.branches ≡ self.old.branches) }
     {
         match answer {
-            Answer::Stands(Standing::Undecided) => self.watches.add(tx, turn, now)?,
-            Answer::Stands(Standing::Committed | Standing::Aborted) => self.watches.settle(tx),
+            Answer::Stands(Standing::Undecided) => self.watches.add(&tx.to_tx(), turn, now)?,
+            Answer::Stands(Standing::Committed | Standing::Aborted) => {
+                self.watches.settle(&tx.to_tx());
+            }
             _ => {}
         }
         Ok(())
@@ -170,10 +186,10 @@ impl Notes {
                     .note(number_of(origin), xid, action, answer, now)?;
                 self.note_time(xid, action, answer);
             }
-            Request::Commit { tx } => self.watch(tx.get(), 0, answer, now)?,
+            Request::Commit { tx } => self.watch(&tx.get(), 0, answer, now)?,
             Request::Timeout { tx } => {
                 if let NodeId::L(_) = self.who {
-                    self.watch(tx.get(), ASKED, answer, now)?;
+                    self.watch(&tx.get(), ASKED, answer, now)?;
                 }
             }
             _ => {}

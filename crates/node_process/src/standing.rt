@@ -7,16 +7,21 @@ ghost use Rattle.node_process.specs.Due.{IsOpenAt, says_open};
 
 use node_core::Input;
 use port::Member;
-use protocol::{Answer, Boxed, NodeId, Request, Standing};
+use protocol::{Answer, NodeId, Request, Standing};
 use stable_record::Record;
 use std::alloc::Global;
+use wire::{MAX_TX_BYTES, OwnedTx, SpelledTx};
 use xid::{Refusal, Tx};
 
 /// What asks where a transaction stands: its status at a leader, else its view.
-pub(crate) fn question_of(alloc: Global, who: NodeId, tx: &Tx) -> Result<Request, Refusal>
+pub(crate) fn question_of(
+    alloc: Global,
+    who: NodeId,
+    tx: &SpelledTx<'_>,
+) -> Result<Request, Refusal>
     ensures { IfOk result (λ request. request ≡ question who tx.now) }
 {
-    let tx = Boxed::new(alloc, *tx)?;
+    let tx = OwnedTx::copy_of(alloc, tx)?;
     Ok(match who {
         NodeId::L(_) => Request::Status { tx },
         _ => Request::View { tx },
@@ -34,7 +39,8 @@ fn answer_of<R: Record>(
     ensures asks { Asks who node.old node.new }
     ensures answered { IfOk result (IsAnswered who tx.now node.old node.new) }
 {
-    let request = question_of(alloc, who, tx)?;
+    let mut buffer = [0; MAX_TX_BYTES];
+    let request = question_of(alloc, who, &SpelledTx::of(tx, &mut buffer))?;
     Ok(node.take(Input::Asked(&request)).reply)
 }
 

@@ -17,9 +17,9 @@ ghost use Rattle.port.specs.Calls.{Calls, Raises, SendsAll, SendsTo, Serves, Tel
 use crate::member::Member;
 use crate::port::{MAX_TAKEN, Port};
 use node_core::{Input, NodeSends, Output, Receivers, Sizes};
-use protocol::{Address, Answer, Change, NodeId, Outgoing};
+use protocol::{Address, Answer, Change, NodeId};
 use stable_record::{Record, RecordError};
-use wire::{MAX_DATAGRAM, Notice, encode};
+use wire::{MAX_DATAGRAM, Notice};
 use xid::{Floor, ManagerNumber, Refusal};
 
 /// What came of an input: its sends are out.
@@ -42,16 +42,6 @@ fn send<P: Port>(port: &mut P, sizes: Sizes, to: Address, bytes: &[u8])
         // what isn't sent is lost, as a datagram may be
         let _ = port.send(receivers.at(i), bytes);
     }
-}
-
-/// Sends a message that isn't spelled yet to each of its receivers, as `send` does.
-fn spell_and_send<P: Port>(port: &mut P, sizes: Sizes, outgoing: &Outgoing)
-    ensures { (sender : Sender) → SendsAll P.sent port.old port.new (datagrams_of (config_by sizes []) sender outgoing.now) }
-{
-    let mut buffer = [0; MAX_DATAGRAM];
-    let _ = outgoing.message.kind();
-    let len = encode(&outgoing.message, &mut buffer);
-    send(port, sizes, outgoing.to, &buffer[..len]);
 }
 
 /// Sends bytes to each leader.
@@ -79,8 +69,10 @@ fn spell_and_send_all<P: Port>(port: &mut P, sizes: Sizes, sends: &NodeSends)
     ensures { (sender : Sender) → SendsAll P.sent port.old port.new
         (flat_map (datagrams_of (config_by sizes []) sender) sends.now) }
 {
+    let mut buffer = [0; MAX_DATAGRAM];
     for k in 0..sends.count() {
-        spell_and_send(port, sizes, &sends.at(k));
+        let (to, len) = sends.spell(k, &mut buffer);
+        send(port, sizes, to, &buffer[..len]);
     }
 }
 

@@ -1,5 +1,5 @@
-use crate::boxed::Boxed;
-use xid::{Bytes, Tx, Xid};
+use wire::OwnedTx;
+use xid::{Bytes, Xid};
 
 /// What a client asks of a branch. Start, end and rollback are those of X/Open XA (C193), chapter "The xa.h Header"; keys and
 /// values, of any length here, are this project's own.
@@ -52,24 +52,24 @@ pub enum Request {
     /// resource manager outside the cluster, or doesn't name this one (`BadTx`).
     View {
         /// The transaction.
-        tx: Boxed<Tx>,
+        tx: OwnedTx,
     },
     /// Of a leader: commit a transaction. Refused: the leader is down (`Down`); the transaction names a resource manager outside the
     /// cluster (`BadTx`).
     Commit {
         /// The transaction.
-        tx: Boxed<Tx>,
+        tx: OwnedTx,
     },
     /// Of a leader: what it knows of a transaction. Refused as a commit is.
     Status {
         /// The transaction.
-        tx: Boxed<Tx>,
+        tx: OwnedTx,
     },
     /// Of a leader or a resource manager: nothing was heard of a transaction for too long. Refused as a commit is; and at a leader that
     /// has no greater ballot (`NoBallot`), or whose append fails (`RecordFault`): nothing is sent, and the leader is down, its ballot
     /// stored where the whole frame was kept.
     Timeout {
         /// The transaction.
-        tx: Boxed<Tx>,
+        tx: OwnedTx,
     },
 }

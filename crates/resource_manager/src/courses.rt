@@ -11,8 +11,8 @@ use hashing::HashKey;
 use std::alloc::Global;
 use std::marker::Model;
 use transactions::Transactions;
-use wire::{MAX_TX_BYTES, SpelledTx};
-use xid::{Refusal, Tx};
+use wire::SpelledTx;
+use xid::Refusal;
 
 /// The transactions that a resource manager has seen, and how far each has come. One that wasn't seen is working. The others stand in
 /// the order of their first facts too, by their numbers.
@@ -99,14 +99,6 @@ impl Courses {
         }
     }
 
-    /// The same of a transaction that isn't spelled.
-    pub fn of_tx(&self, tx: &Tx) -> Course
-        ensures { result ≡ course_in self.now tx.now }
-    {
-        let mut buffer = [0; MAX_TX_BYTES];
-        self.of(&SpelledTx::of(tx, &mut buffer))
-    }
-
     /// Sees a transaction, which is working then unless it was seen, and answers its number. At `NoMemory`, the only refusal, it wasn't
     /// seen; then, and else too, each has come as far as before.
     pub fn see(&mut self, tx: &SpelledTx<'_>) -> Result<usize, Refusal>
@@ -169,13 +161,6 @@ impl Courses {
         ensures found { filter_map (slice_get self.now.transactions) result.now ≡ self.now.begun }
     {
         &self.begun
-    }
-
-    /// The transaction of a number, where there is one. It takes no memory.
-    pub fn get(&self, number: usize) -> Option<Tx>
-        ensures { result ≡ slice_get self.now.transactions number }
-    {
-        self.transactions.get(number)
     }
 
     /// The transaction of a number over its spelled bytes, where there is one. It takes no memory.

@@ -162,7 +162,7 @@ impl ResourceManager {
 
     /// Where the resource manager stands in a transaction. Refused: the transaction names a resource manager outside the cluster, or
     /// doesn't name this one (`BadTx`). It takes no memory.
-    pub fn view(&self, tx: &Tx) -> Result<View, Refusal>
+    pub fn view(&self, tx: &SpelledTx<'_>) -> Result<View, Refusal>
         ensures { (config : Config) (number : ℕ) (facts : List Fact) (branches : List Branch)
             → StandsFor config number self.now facts branches
             → view_answer result ≡ (on_view_call config number (stored_votes number facts) branches tx.now).answer }
@@ -173,7 +173,7 @@ impl ResourceManager {
         if !tx.is_participant(self.number()) {
             return Err(Refusal::BadTx);
         }
-        Ok(self.courses.of_tx(tx).view())
+        Ok(self.courses.of(tx).view())
     }
 
     /// Its number, as transactions have it.
@@ -214,21 +214,21 @@ impl ResourceManager {
     {
         let mut txs = Vec::new(alloc);
         for number in self.courses.begun() {
-            let Some(tx) = self.courses.get(*number) else {
+            let Some(tx) = self.courses.view(*number) else {
                 continue;
             };
-            self.push_open(&mut txs, tx)?;
+            self.push_open(&mut txs, &tx)?;
         }
         Ok(txs)
     }
 
     /// Pushes a transaction, if it is prepared. Refused: `NoMemory` alone.
-    fn push_open(&self, txs: &mut Vec<Tx>, tx: Tx) -> Result<(), Refusal>
-        ensures ok { OnOk result (txs.new.items ≡ txs.old.items ++ cons_option (open_at self.now tx) []) }
+    fn push_open(&self, txs: &mut Vec<Tx>, tx: &SpelledTx<'_>) -> Result<(), Refusal>
+        ensures ok { OnOk result (txs.new.items ≡ txs.old.items ++ cons_option (open_at self.now tx.now) []) }
         ensures err { IfErr result (λ e. e ≡ NoMemory) }
     {
-        if self.courses.of_tx(&tx).is_prepared() {
-            txs.push(tx)?;
+        if self.courses.of(tx).is_prepared() {
+            txs.push(tx.to_tx())?;
         }
         Ok(())
     }

@@ -11,8 +11,8 @@ ghost use Rattle.resource_manager.specs.Messages.{are_below, asked_by, IsReminde
 use crate::course::Course;
 use crate::manager::ResourceManager;
 use protocol::{Address, Answer, Outgoing, Sends};
-use wire::{Kind, Message};
-use xid::{ManagerNumber, Refusal, Tx, Vote};
+use wire::{Kind, Message, SpelledTx};
+use xid::{ManagerNumber, Refusal, Vote};
 
 /// What a resource manager sends when nothing was heard of a transaction for too long.
 #[derive(Debug, Drop)]
@@ -41,7 +41,7 @@ impl Reminder {
 impl ResourceManager {
     /// A timeout: a stored vote is sent again to all acceptors, and where the resource manager is prepared, all leaders are asked. The
     /// answer is ok, or `BadTx` where the transaction names a resource manager outside the cluster. It takes no memory.
-    pub fn timeout(&self, tx: &Tx) -> Reminder
+    pub fn timeout(&self, tx: &SpelledTx<'_>) -> Reminder
         ensures { (config : Config) (number : ℕ) (facts : List Fact) (branches : List Branch)
             → StandsFor config number self.now facts branches
             → IsReminder result branches (on_manager_timeout config number (stored_votes number facts) branches tx.now) }
@@ -53,7 +53,7 @@ impl ResourceManager {
         if !tx.is_participant(own) {
             return Reminder::answers(Answer::Done);
         }
-        let course = self.courses.of_tx(tx);
+        let course = self.courses.of(tx);
         Reminder {
             answer: Answer::Done,
             vote: votes_sent(own, tx, course.vote()),
@@ -63,19 +63,14 @@ impl ResourceManager {
 }
 
 /// Whether a transaction names only resource managers of the cluster.
-pub(crate) fn is_inside(managers: u8, tx: &Tx) -> bool
+pub(crate) fn is_inside(managers: u8, tx: &SpelledTx<'_>) -> bool
     ensures { result ≡ are_below managers (participants tx.now) }
 {
-    for i in 0..tx.count() {
-        if tx.rm(i) >= u16::from(managers) {
-            return false;
-        }
-    }
-    true
+    tx.are_below(u16::from(managers))
 }
 
 /// A vote in ballot 0 for all acceptors.
-fn vote_message(number: ManagerNumber, tx: &Tx, vote: Vote) -> Sends
+fn vote_message(number: ManagerNumber, tx: &SpelledTx<'_>, vote: Vote) -> Sends
     requires { IsTrue (is_participant tx.now number) }
     ensures { result ≡ vote_sent number tx.now (Some vote) }
 {
@@ -83,7 +78,7 @@ fn vote_message(number: ManagerNumber, tx: &Tx, vote: Vote) -> Sends
     Sends::one(Outgoing {
         to: Address::Acceptors,
         message: Message::new(Kind::P2a {
-            tx: *tx,
+            tx: tx.to_tx(),
             instance: number,
             ballot: 0,
             vote,
@@ -92,7 +87,7 @@ fn vote_message(number: ManagerNumber, tx: &Tx, vote: Vote) -> Sends
 }
 
 /// A vote, if there is one, in ballot 0 for all acceptors.
-fn votes_sent(number: ManagerNumber, tx: &Tx, vote: Option<Vote>) -> Sends
+fn votes_sent(number: ManagerNumber, tx: &SpelledTx<'_>, vote: Option<Vote>) -> Sends
     requires { IsTrue (is_participant tx.now number) }
     ensures { result ≡ vote_sent number tx.now vote }
 {
@@ -103,7 +98,7 @@ fn votes_sent(number: ManagerNumber, tx: &Tx, vote: Option<Vote>) -> Sends
 }
 
 /// The question for the outcome to all leaders, where the resource manager is prepared.
-fn asks(number: ManagerNumber, tx: &Tx, course: Course) -> Sends
+fn asks(number: ManagerNumber, tx: &SpelledTx<'_>, course: Course) -> Sends
     requires { IsTrue (is_participant tx.now number) }
     ensures { result ≡ asked_by number tx.now course }
 {
@@ -114,7 +109,7 @@ fn asks(number: ManagerNumber, tx: &Tx, course: Course) -> Sends
     Sends::one(Outgoing {
         to: Address::Leaders,
         message: Message::new(Kind::Ask {
-            tx: *tx,
+            tx: tx.to_tx(),
             rm: number,
         }),
     })

@@ -5,9 +5,10 @@ ghost use Rattle.net_script.specs.Lines.{words};
 ghost use Rattle.serving.specs.Wishes.{BeginsAsRequest, IsWish, SpellsFor};
 
 use net_script::{Command, is_over, last_node, last_tx, next_word, node, read_command};
-use protocol::{Boxed, Event, NodeId, Request};
+use protocol::{Event, NodeId, Request};
 use std::alloc::Global;
-use xid::{Floor, Refusal, Tx};
+use wire::OwnedTx;
+use xid::{Floor, Refusal};
 
 /// What a client's line wishes of a node.
 #[derive(Debug, Drop)]
@@ -23,7 +24,7 @@ pub enum Wish {
     /// How it is.
     Info,
     /// Where a transaction stands, once that is final.
-    Await(Boxed<Tx>),
+    Await(OwnedTx),
     /// A command of another node.
     Elsewhere,
     /// No command of a client.

@@ -1,4 +1,4 @@
--- What a message says beside its transaction: as it is seen over bytes, and as it is replied.
+-- What a message says beside its transaction: as it is seen over bytes, and as it goes out.
 use Rattle.std.specs.Prelude.{ℕ, List, [], ◌∷◌, ◌++◌, length, Option, Some, None, Result, Ok, Err}
 use Rattle.std.specs.Borrow.{Bor}
 use Rattle.std.specs.List.{flat_map}
@@ -39,29 +39,44 @@ abbrev pub told : TxParts → Option Rest → Result Kind Refusal
 told tx None = Err BadMessage
 told tx (Some rest) = Ok (said tx rest)
 
--- the message of a reply to a transaction
+-- the message that goes out of a transaction
 abbrev pub replied : TxParts → ReplyRest → Kind
+replied tx replies.Prepare = kinds.Prepare tx
+replied tx (replies.P1a instance ballot) = kinds.P1a tx instance ballot
 replied tx (replies.P1b instance ballot report acceptor) = kinds.P1b tx instance ballot report acceptor
 replied tx (replies.P2a instance ballot vote) = kinds.P2a tx instance ballot vote
 replied tx (replies.P2b instance ballot vote acceptor) = kinds.P2b tx instance ballot vote acceptor
+replied tx replies.Commit = kinds.Commit tx
+replied tx replies.Abort = kinds.Abort tx
+replied tx (replies.B1a ballot) = kinds.B1a tx ballot
 replied tx (replies.B1b ballot acceptor reports) = kinds.B1b tx ballot acceptor reports
 replied tx (replies.B2b acceptor accepts) = kinds.B2b tx acceptor accepts
 
 -- the number of its kind
 abbrev pub reply_byte : ReplyRest → ℕ
+reply_byte replies.Prepare = 1
+reply_byte (replies.P1a instance ballot) = 2
 reply_byte (replies.P1b instance ballot report acceptor) = 3
 reply_byte (replies.P2a instance ballot vote) = 4
 reply_byte (replies.P2b instance ballot vote acceptor) = 5
+reply_byte replies.Commit = 6
+reply_byte replies.Abort = 7
+reply_byte (replies.B1a ballot) = 10
 reply_byte (replies.B1b ballot acceptor reports) = 11
 reply_byte (replies.B2b acceptor accepts) = 12
 
 -- what follows the transaction in it
 abbrev pub reply_spelling : ReplyRest → List ℕ
+reply_spelling replies.Prepare = []
+reply_spelling (replies.P1a instance ballot) = rm_spelling version_2 instance ++ number_spelling ballot
 reply_spelling (replies.P1b instance ballot report acceptor) = rm_spelling version_2 instance
     ++ (number_spelling ballot ++ (report_spelling report ++ acceptor ∷ []))
 reply_spelling (replies.P2a instance ballot vote) = rm_spelling version_2 instance ++ (number_spelling ballot ++ vote_byte vote ∷ [])
 reply_spelling (replies.P2b instance ballot vote acceptor) = rm_spelling version_2 instance
     ++ (number_spelling ballot ++ vote_byte vote ∷ acceptor ∷ [])
+reply_spelling replies.Commit = []
+reply_spelling replies.Abort = []
+reply_spelling (replies.B1a ballot) = number_spelling ballot
 reply_spelling (replies.B1b ballot acceptor reports) =
     number_spelling ballot ++ acceptor ∷ length reports ∷ flat_map (report_item_spelling version_2) reports
 reply_spelling (replies.B2b acceptor accepts) = acceptor ∷ length accepts ∷ flat_map (accept_item_spelling version_2) accepts

@@ -26,7 +26,7 @@ pub use notice::{MAX_NOTICE_BYTES, Notice};
 pub use reading::{take_byte, take_component, take_name, take_number, take_rm, take_tx, take_vote};
 pub use reply::{Reply, ReplyRest};
 pub use rest::Rest;
-pub use spelled_tx::SpelledTx;
+pub use spelled_tx::{OwnedTx, PlacedTx, SpelledTx};
 pub use view::{MessageView, decode, view_of};
 pub use view_items::{accepts_of, reports_of};
 pub use writing::{encode, put_tx};

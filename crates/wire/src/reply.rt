@@ -12,9 +12,16 @@ use crate::writing::{
 use std::marker::Model;
 use xid::{Ballot, ManagerNumber, Vote};
 
-/// What a reply says beside its transaction.
+/// What a message that goes out says beside its transaction. A resource manager's question isn't among these.
 #[derive(Clone, Copy, Debug)]
 pub enum ReplyRest {
+    /// From a leader to a resource manager: prepare the transaction.
+    Prepare,
+    /// Phase 1a, of a leader: take part in a ballot.
+    P1a {
+        instance: ManagerNumber,
+        ballot: Ballot,
+    },
     /// Phase 1b, of an acceptor: it takes part in the ballot. The report is the ballot and vote that it accepted last, if there are any.
     P1b {
         instance: ManagerNumber,
@@ -22,7 +29,7 @@ pub enum ReplyRest {
         report: Option<(Ballot, Vote)>,
         acceptor: u8,
     },
-    /// Phase 2a in ballot 0, of a resource manager: its vote.
+    /// Phase 2a: in ballot 0 a resource manager's vote, in others what a leader proposes.
     P2a {
         instance: ManagerNumber,
         ballot: Ballot,
@@ -34,6 +41,14 @@ pub enum ReplyRest {
         ballot: Ballot,
         vote: Vote,
         acceptor: u8,
+    },
+    /// From a leader to a resource manager: the transaction is committed.
+    Commit,
+    /// From a leader to a resource manager: the transaction is aborted.
+    Abort,
+    /// Phase 1a of all instances.
+    B1a {
+        ballot: Ballot,
     },
     /// Phase 1b of some instances, ascending.
     B1b {
@@ -53,9 +68,14 @@ fn code_of(rest: &ReplyRest) -> u8
     ensures { result ≡ reply_byte rest.now }
 {
     match rest {
+        ReplyRest::Prepare => 1,
+        ReplyRest::P1a { .. } => 2,
         ReplyRest::P1b { .. } => 3,
         ReplyRest::P2a { .. } => 4,
         ReplyRest::P2b { .. } => 5,
+        ReplyRest::Commit => 6,
+        ReplyRest::Abort => 7,
+        ReplyRest::B1a { .. } => 10,
         ReplyRest::B1b { .. } => 11,
         ReplyRest::B2b { .. } => 12,
     }
@@ -70,6 +90,12 @@ fn put_reply(rest: &ReplyRest, out: &mut [u8], at: usize) -> usize
     ensures rest { (n : ℕ) → result ≤ n → drop n out.new ≡ drop n out.old }
 {
     match rest {
+        ReplyRest::Prepare | ReplyRest::Commit | ReplyRest::Abort => at,
+        ReplyRest::P1a { instance, ballot } => {
+            let at = put_rm(out, at, *instance);
+            put_number(out, at, *ballot)
+        }
+        ReplyRest::B1a { ballot } => put_number(out, at, *ballot),
         ReplyRest::P1b {
             instance,
             ballot,
@@ -117,7 +143,7 @@ fn put_reply(rest: &ReplyRest, out: &mut [u8], at: usize) -> usize
     }
 }
 
-/// What an acceptor or a resource manager sends on a message, over the bytes of its transaction, which stand elsewhere.
+/// A message that goes out, over the bytes of its transaction, which stand elsewhere.
 #[derive(Debug, Drop)]
 pub struct Reply<'a> {
     tx: SpelledTx<'a>,
@@ -137,7 +163,7 @@ impl<'a> Model for Reply<'a> {
 }
 
 impl<'a> Reply<'a> {
-    /// The reply of a transaction.
+    /// The message of a transaction.
     pub fn new(tx: &SpelledTx<'a>, rest: ReplyRest) -> Reply<'a>
         requires { IsMessage (replied tx.now rest) }
         ensures { result ≡ replied tx.now rest }

@@ -1,7 +1,9 @@
-ghost use Rattle.std.specs.Prelude.{◌≡◌, ℕ, ◌+◌, ◌≤◌, ◌<◌, Some, IsTrue, is_some, length, slice_index, MatchOption, nat_lt};
+ghost use Rattle.std.specs.Prelude.{◌≡◌, ℕ, ◌+◌, ◌≤◌, ◌<◌, None, Some, IfErr, IfOk, IsTrue, MatchOption, is_some, length, nat_lt};
+ghost use Rattle.std.specs.Prelude.{slice_index};
 ghost use Rattle.std.specs.List.{list_all, position_or_len};
 ghost use Rattle.xid.specs.Limits.{most_managers};
 ghost use Rattle.xid.specs.Places.{is_below};
+ghost use Rattle.xid.specs.declared.refusals.Refusal.TheVariants.{NoMemory};
 ghost use Rattle.xid.specs.Transactions.{IsTx, nth_branch, participants, is_at, is_participant, xid_at};
 ghost use Rattle.wire.specs.Decoding.{tx_in};
 ghost use Rattle.wire.specs.Grammar.{tx_spelling, branches_spelling};
@@ -11,10 +13,13 @@ ghost use Rattle.wire.specs.Spelled.{tx_spelled, IsSpelled, seen, branch_taken, 
 
 use crate::grammar::{MAX_TX_BYTES, VersionNumber};
 use crate::reading::{take_byte, take_component, take_number, take_rm};
-use crate::writing::put_tx;
+use crate::writing::{put_bytes, put_tx};
 use byteorder::{BigEndian, ByteOrder};
+use std::alloc::Global;
 use std::marker::Model;
-use xid::{Branches, FORMATS, Floor, MAX_BRANCHES, MAX_MANAGERS, ManagerNumber, Tx, Xid};
+use xid::{
+    Branches, Bytes, FORMATS, Floor, MAX_BRANCHES, MAX_MANAGERS, ManagerNumber, Refusal, Tx, Xid,
+};
 
 /// A transaction, by the bytes that spell it, which stand elsewhere.
 #[derive(Debug, Drop)]
@@ -303,5 +308,102 @@ impl<'a> SpelledTx<'a> {
             rest = branch.2;
         }
         Tx::of_parts(self.format(), self.gtrid(), &all)
+    }
+}
+
+/// A transaction, by the bytes that spell it, which are its own: it takes as much memory as it has bytes, and is moved without them.
+#[derive(Debug, Drop)]
+pub struct OwnedTx {
+    bytes: Bytes,
+}
+
+impl Model for OwnedTx {
+    ghost use Rattle.xid.specs.Transactions.{TxParts};
+    ghost use Rattle.wire.specs.Spelled.{tx_spelled, IsSpelled};
+
+    ghost Value = { TxParts };
+
+    ghost view = { λ t. tx_spelled t.bytes };
+
+    ghost invariant = { λ t. IsSpelled t.bytes };
+}
+
+impl OwnedTx {
+    /// A transaction with its spelling, which is written anew. Refused: `NoMemory` alone.
+    pub fn new(alloc: Global, tx: &Tx) -> Result<OwnedTx, Refusal>
+        ensures ok { IfOk result (λ owned. owned ≡ tx.now) }
+        ensures err { IfErr result (λ e. e ≡ NoMemory) }
+    {
+        let mut buffer = [0; MAX_TX_BYTES];
+        OwnedTx::copy_of(alloc, &SpelledTx::of(tx, &mut buffer))
+    }
+
+    /// A transaction with a copy of its spelling. Refused: `NoMemory` alone.
+    pub fn copy_of(alloc: Global, tx: &SpelledTx<'_>) -> Result<OwnedTx, Refusal>
+        ensures ok { IfOk result (λ owned. owned ≡ tx.now) }
+        ensures err { IfErr result (λ e. e ≡ NoMemory) }
+    {
+        Ok(OwnedTx {
+            bytes: Bytes::copy_of(alloc, tx.bytes)?,
+        })
+    }
+
+    /// The transaction over its spelling.
+    pub fn get(&self) -> SpelledTx<'_>
+        ensures { result ≡ self.now }
+    {
+        SpelledTx {
+            bytes: self.bytes.as_slice(),
+        }
+    }
+}
+
+/// A transaction, by the bytes that spell it, or none, in a place that has room for the longest: to put another there takes no memory.
+#[derive(Debug, Drop)]
+pub struct PlacedTx {
+    len: usize,
+    bytes: [u8; MAX_TX_BYTES],
+}
+
+impl Model for PlacedTx {
+    ghost use Rattle.std.specs.Prelude.{Option};
+    ghost use Rattle.xid.specs.Transactions.{TxParts};
+    ghost use Rattle.wire.specs.Spelled.{tx_placed, IsPlaced};
+
+    ghost Value = { Option TxParts };
+
+    ghost view = { λ p. tx_placed p.len p.bytes };
+
+    ghost invariant = { λ p. IsPlaced p.len p.bytes };
+}
+
+impl PlacedTx {
+    /// None.
+    pub fn none() -> PlacedTx
+        ensures { result ≡ None }
+    {
+        PlacedTx {
+            len: 0,
+            bytes: [0; MAX_TX_BYTES],
+        }
+    }
+
+    /// A transaction, in place of another.
+    pub fn put(&mut self, tx: &SpelledTx<'_>)
+        ensures { self.new ≡ Some tx.now }
+    {
+        self.len = put_bytes(&mut self.bytes, 0, tx.as_bytes());
+    }
+
+    /// The transaction over its spelling, if there is one.
+    pub fn get(&self) -> Option<SpelledTx<'_>>
+        ensures { result ≡ self.now }
+    {
+        if self.len == 0 {
+            return None;
+        }
+        Some(SpelledTx {
+            bytes: &self.bytes[..self.len],
+        })
     }
 }

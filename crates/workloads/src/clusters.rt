@@ -9,10 +9,11 @@ use anyhow::{Result, bail};
 use hmac::Key;
 use node_core::{Config, Input, Output, Sizes};
 use port::{FakePort, MAX_TAKEN, Member, Port, call_all};
-use protocol::{Action, Answer, Boxed, Change, NodeId, Request, Row, View};
+use protocol::{Action, Answer, Change, NodeId, Request, Row, View};
 use signed_port::{DIGEST, PlainPort, SignedPort};
 use stable_record::MemRecord;
 use std::alloc::Global;
+use wire::OwnedTx;
 use xid::Sequence;
 
 /// How many inputs are handed to a node at a time, at most.
@@ -360,7 +361,7 @@ impl Processes {
         }
         let mut requests = Vec::new(self.alloc);
         for place in 0..count {
-            let tx = Boxed::new(self.alloc, self.payments.tx(first.wrapping_add(place))?)?;
+            let tx = OwnedTx::new(self.alloc, &self.payments.tx(first.wrapping_add(place))?)?;
             requests.push(Request::Commit { tx })?;
         }
         self.ask(LEADER, &requests, digest)?;

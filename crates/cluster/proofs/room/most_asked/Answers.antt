@@ -6,7 +6,7 @@ use Rattle.cluster.proofs.room.most_asked.Goals as goal
 
 pub returns-in-L-clause-bound : goal.returns-in-L-clause-bound
 returns-in-L-clause-bound c = λ config are facts memory.
-    asked_leader config c.args.sizes are facts memory c.get-in-L.result.now c.args.who c.in-L.field-0 c.in-L.is c.args.request.now
+    asked_leader config c.args.sizes are facts memory c.get-in-L.result c.args.who c.in-L.field-0 c.in-L.is c.args.request.now
     (c.in-Timeout.is ∙ ap (λ (tx : TxParts). Timeout tx) (sym c.get-in-L.ensures))
     c.count-in-L.ensures.valid c.count-in-L.result c.from-acceptors.result c.count-in-L.ensures.value c.from-acceptors.ensures
 

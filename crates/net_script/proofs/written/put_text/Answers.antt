@@ -3,6 +3,7 @@ use Rattle.std.proofs.lemmas.Option.{none-some}
 use Rattle.xid.specs.Transactions.{BranchParts, branch_text}
 use Rattle.wire.specs.Reading.{byte_at}
 use Rattle.wire.proofs.Walks.{next, some_next}
+use Rattle.net_script.proofs.TraceLemmas.{kept_behind, kept_so, onward}
 use Rattle.net_script.proofs.SpelledText.{begun_more, counted, first_written, name_of, named}
 use Rattle.net_script.proofs.written.put_text.Goals as goal
 
@@ -73,3 +74,16 @@ loop-place-preserved c =
           ∙ ap (λ (text : List ℕ). text ++ branch_text (get_or tx.branches place blank)) c.in_ok-push-3.ensures.items
           ∙ begun_more tx place blank c.args.out.now.items c.loop-place.out.items some within c.loop-place.invariant.made;
     }
+
+pub returns-in_err-push-3-clause-kept : goal.returns-in_err-push-3-clause-kept
+returns-in_err-push-3-clause-kept c =
+    kept_so c.from_residual-in_err-push-3.result c.args.out.now.items c.push-in-loop-place.new.self.items _
+    (c.in_err-push-3.ensures.items ∙ c.loop-place.invariant.made)
+
+pub returns-in_err-rest-2-clause-kept : goal.returns-in_err-rest-2-clause-kept
+returns-in_err-rest-2-clause-kept c =
+    kept_behind c.from_residual-in_err-rest-2.result c.args.out.now.items c.push-in-loop-place.new.self.items
+    c.put_branch-in-loop-place.new.out.items _
+    (onward c.args.out.now.items c.loop-place.out.items c.push-in-loop-place.new.self.items _ _ c.loop-place.invariant.made
+    c.in_ok-push-3.ensures.items)
+    c.in_err-rest-2.ensures.kept

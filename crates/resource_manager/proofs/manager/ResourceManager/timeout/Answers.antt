@@ -16,10 +16,10 @@ returns-then-not-is_participant c config number facts branches stands =
 pub returns : goal.returns
 returns c config number facts branches stands =
     timeout_named c.args.self.now c.args.tx.now config number facts branches stands _ true
-    (c.if-not-is_inside.ensures ∙ ap (λ m. are_below m.managers (participants c.args.tx.now)) c.self.view_is) refl c.of_tx-course.result
-    (course_of _ c.args.self.now c.args.tx.now c.of_tx-course.result c.self.view_is c.of_tx-course.ensures)
+    (c.if-not-is_inside.ensures ∙ ap (λ m. are_below m.managers (participants c.args.tx.now)) c.self.view_is) refl c.of-course.result
+    (course_of _ c.args.self.now c.args.tx.now c.of-course.result c.self.view_is c.of-course.ensures)
     (λ i. record {
       answer = Done;
       vote = (c.votes_sent.ensures ∙ (λ j. vote_sent (c.number-own.ensures j) c.args.tx.now (c.vote.ensures j))) i;
-      question = (c.asks.ensures ∙ ap (λ n. asked_by n c.args.tx.now c.of_tx-course.result) c.number-own.ensures) i;
+      question = (c.asks.ensures ∙ ap (λ n. asked_by n c.args.tx.now c.of-course.result) c.number-own.ensures) i;
     })

@@ -10,7 +10,7 @@ use Rattle.resource_manager.proofs.manager.ResourceManager.view.Goals as goal
 pub returns : goal.returns
 returns c config number facts branches stands =
     ap (λ v. Stands (view_standing v))
-    (c.view.ensures ∙ ap view_of (sym (course_of _ c.args.self.now c.args.tx.now c.of_tx.result c.self.view_is c.of_tx.ensures)))
+    (c.view.ensures ∙ ap view_of (sym (course_of _ c.args.self.now c.args.tx.now c.of.result c.self.view_is c.of.ensures)))
     ∙ view_named_here c.args.self.now c.args.tx.now config number facts branches stands true
     (c.if-not-is_inside.ensures ∙ ap (λ m. are_below m.managers (participants c.args.tx.now)) c.self.view_is) refl
     (sym (c.if-not-is_participant.ensures.value ∙ ap (is_participant c.args.tx.now) c.number.ensures))
