@@ -4,7 +4,7 @@ PROGRAM [TRANSACTIONS [SEED]]. Clients of bench/clients.c do most of them, as fa
 managers, and read the sum. What is checked:
   - each sum that was read, and the sum of the last tables, is the first sum
   - what each process has in memory, and its record, is level after the first tenth: the mean of each tenth is within a fifth of
-    that of all, and a megabyte
+    that of all, and a megabyte. They are looked at four times a second, and each process is killed as often as every other
   - of acceptors, leaders and managers, the straight line through the means of these tenths rises by at most a fifth of their mean, or a
     megabyte: a process that was killed has less for a while, and what is kept for a time follows the rate, so this tells a rise better
   - at the end each process listens within 0.2 s of its start
@@ -35,6 +35,8 @@ ACCOUNTS, FIRST = 8, 1000
 IDLE = 1000
 # seconds from a kill to the next at most, and from a process's start until it listens
 PAUSE, SOON = 6.0, 0.2
+# seconds from one look at the levels to the next
+LOOK = 0.25
 
 
 class Hasty:
@@ -132,14 +134,19 @@ def total(cluster):
     return found
 
 
-class Levels:
+class Levels(threading.Thread):
     """What each process has in memory, and its record, by tenths of the whole: means, and at most."""
 
     def __init__(self, cluster):
+        super().__init__(daemon=True)
         self.cluster, self.found, self.seconds = cluster, [collections.defaultdict(list) for _ in range(10)], [0] * 10
+        self.tenth, self.stopping = 0, threading.Event()
 
-    def note(self, tenth, seconds):
-        self.seconds[tenth] += seconds
+    def run(self):
+        while not self.stopping.wait(LOOK):
+            self.look(self.tenth)
+
+    def look(self, tenth):
         for name in self.cluster.names:
             try:
                 record = os.path.getsize(os.path.join(self.cluster.records, name + '.rec'))
@@ -193,9 +200,11 @@ def rise(means):
 
 
 def kill_along(cluster, chance, killed, stopping):
-    """Kills a process every few seconds, and starts it again."""
+    """Kills a process every few seconds, and starts it again: in each round all of them, one after another."""
+    left = []
     while not stopping.wait(chance.uniform(0.3, 1) * PAUSE):
-        name = chance.choice(cluster.names)
+        left = left or chance.sample(cluster.names, len(cluster.names))
+        name = left.pop()
         cluster.kill(name)
         time.sleep(chance.uniform(0, 0.3))
         cluster.start(name)
@@ -206,16 +215,17 @@ def live(cluster, hasty, movers, count, chance):
     """All of it. What the processes had, and how many were killed."""
     levels, killed, stopping = Levels(cluster), collections.Counter(), threading.Event()
     killer = threading.Thread(target=kill_along, args=(cluster, chance, killed, stopping), daemon=True)
-    for one in (*movers, killer):
+    for one in (*movers, killer, levels):
         one.start()
-    while hasty.count < count and killer.is_alive():
+    while hasty.count < count and killer.is_alive() and levels.is_alive():
         begun = time.monotonic()
         hasty.run(2)
-        levels.note(min(9, 10 * hasty.count // count), time.monotonic() - begun)
+        levels.tenth = min(9, 10 * hasty.count // count)
+        levels.seconds[levels.tenth] += time.monotonic() - begun
     stopping.set()
-    for one in movers:
+    for one in (*movers, levels):
         one.stopping.set()
-    for one in (*movers, killer):
+    for one in (*movers, killer, levels):
         one.join(90)
     return levels, killed
 
